@@ -14,7 +14,7 @@ use Rattle.log_text.specs.Statement.{Sentence}
 use Rattle.log_text.specs.declared.statement.RawDeed.{RawDeed}
 use Rattle.log_text.specs.declared.statement.RawForm.{RawForm}
 use Rattle.sequencer.specs.Names.{is_known, with_name}
-use Rattle.sequencer.specs.Catalog.{Names, numbered, numbered_deed, numbered_form}
+use Rattle.sequencer.specs.Catalog.{Names, deed_in, numbered, numbered_deed, numbered_form, with_grantees}
 use Rattle.sequencer.specs.Refusal.{accesses_refusal, create_refusal, deed_refusal, form_refusal, name_refusal, refusal, steps_refusal, table_refusal, refuse_unless}
 use Rattle.sequencer.specs.declared.refused.Refused.{Refused}
 use Rattle.sequencer.proofs.Passed.{both_none, known-table, passes}
@@ -61,7 +61,7 @@ known_new names sentence e =
     let rest = both_none _ _ e in
     let form = both_none _ _ rest.1 in
     let few = both_none _ _ form.1 in
-    known-form names (with_name names.users sentence.user) sentence.form form.0 few.1
+    known-form names (with_grantees (with_name names.users sentence.user) (deed_in sentence.form)) sentence.form form.0 few.1
 
 -- one named statement more
 named-more : (tables : ℕ) (log : List Statement) (statement : Statement) → AreNamedFrom tables log → NeedsWithin (tables + length (owners log)) statement

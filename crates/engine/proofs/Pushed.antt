@@ -8,9 +8,10 @@ use Rattle.model_base.specs.Outcomes.{owners}
 use Rattle.chains.specs.Store.{Store}
 use Rattle.grants_base.specs.Book.{Entries}
 use Rattle.log_text.specs.Statement.{Sentence}
+use Rattle.log_text.specs.declared.version.Version.{Version}
 use Rattle.sequencer.specs.Catalog.{numbered}
 use Rattle.sequencer.specs.Foretelling.{IsForetold}
-use Rattle.sequencer.specs.Log.{Accepted, with_accepted}
+use Rattle.sequencer.specs.Log.{Accepted, in_version, with_accepted}
 use Rattle.sequencer.specs.Refusal.{refusal}
 use Rattle.sequencer.specs.Tail.{Tail}
 use Rattle.sequencer.specs.Whole.{IsWhole}
@@ -61,3 +62,21 @@ module _ (tail : Tail) (store : Store) (book : Entries) (outcomes : List Outcome
       (record { is = one-more sentence is.passes; same = same })
   pushed_foretold past same sentence statement is after (Err refused) accepted err =
       subst (λ (t : Tail). IsRunKept (run_of store book outcomes t.dropped t.log) past) (sym err) (record { is = run; same = same })
+
+-- the version of the log says nothing of its places
+pub versioned : (tail : Tail) (store : Store) (book : Entries) (outcomes past : List Outcome) (version : Version)
+    → IsRunKept (run_of store book outcomes tail.dropped tail.log) past → (after : Tail) → after ≡ record tail { log = in_version version tail.log }
+    → IsRunKept (run_of store book outcomes after.dropped after.log) past
+versioned tail store book outcomes past version kept after set =
+    subst (λ (t : Tail). IsRunKept (run_of store book outcomes t.dropped t.log) past) (sym set)
+    (record {
+      is = record {
+        within = kept.is.within;
+        known = kept.is.known;
+        named = kept.is.named;
+        stands = kept.is.stands;
+        came = kept.is.came;
+        dropped = kept.is.dropped;
+      };
+      same = kept.same;
+    })

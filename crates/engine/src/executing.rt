@@ -1,6 +1,6 @@
 //! A batch, run.
 
-ghost use Rattle.std.specs.Prelude.{◌≡◌, ◌<◌, IfOk, false, true};
+ghost use Rattle.std.specs.Prelude.{◌≡◌, ◌≢◌, ◌<◌, ◌≤◌, Err, IfOk, false, true};
 ghost use Rattle.words.specs.Passes.{IsPassOf};
 ghost use Rattle.workers.specs.Working.{KnowsAll};
 
@@ -41,17 +41,19 @@ pub fn execute<'a, R: Threads + Wait + Sync, G: Gate + Sync>(
 ) -> Result<Finished<'a>, RunFault>
     requires open { batch.placed ≡ false }
     requires some { 0 < batch.size }
-    ensures { IfOk result (λ done. done ≡ record { log = batch.entry.log; first = batch.entry.first; size = batch.entry.size }) }
+    ensures done { IfOk result (λ done. done ≡ record { log = batch.entry.log; first = batch.entry.first; size = batch.entry.size }) }
+    // One worker starts no thread.
+    ensures alone { workers ≤ 1 → result ≢ Err RunFault.Spawn }
 {
     let start = batch.first_place();
     let (words, pass, placers) = open(alloc, batch)?;
-    let workers = Workers {
+    let crew = Workers {
         rt,
         alloc,
         gate,
         count: workers,
     };
-    let (pass, worked) = run_workers(&workers, &words, start, pass, placers);
+    let (pass, worked) = run_workers(&crew, &words, start, pass, placers);
     worked.ended()?;
     let pass = settled(&words, pass);
     let (key, closed) = words.close(pass);

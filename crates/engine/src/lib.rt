@@ -3,8 +3,9 @@
 //! `Engine` has a log, outcomes, rows and book. `push`, `push_read` and `push_foretold` take statements; `run_to` and
 //! `run_batch` run the next range, in order (`run_in_order`) or by a `Crew` of several workers (`execute`, `advance`),
 //! under one contract: the outcomes are the log's. `forget` drops finished statements and outcomes, `trim` and `sweep`
-//! old rows. On `Err`, out of memory or a thread that couldn't be started, the engine is unchanged, and the batch can be
-//! run again. `RememberingBook` remembers needs that were found held, up to the next revocation.
+//! old rows. `grantees_of` says to whom some records are. On `Err`, out of memory or a thread that couldn't be started,
+//! the engine is unchanged, and the batch can be run again. `RememberingBook` remembers needs found held, up to the next
+//! revocation.
 //!
 //! A place costs its needs, its steps and the rows that it writes. Log, rows and book are never copied.
 #![tactic(auto)]
@@ -15,6 +16,7 @@ mod commit;
 mod crew;
 mod executing;
 mod fault;
+mod grantees;
 mod held;
 mod in_order;
 mod remembering;

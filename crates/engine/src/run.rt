@@ -11,6 +11,7 @@ use crate::commit::advance;
 use crate::crew::Crew;
 use crate::executing::execute;
 use crate::fault::EngineFault;
+use crate::grantees::recorded_grantees;
 use crate::in_order::run_in_order;
 use crate::remembering::RememberingBook;
 use crate::state::RunState;
@@ -18,10 +19,10 @@ use chains::{BadMark, Chains, Trimmed};
 use filling::{DecodedBatch, take};
 use grants::Book;
 use log_batch::{LogBatch, StateBefore};
-use log_text::{LineBuffers, RawStatement};
+use log_text::{LineBuffers, RawStatement, Version};
 use model_base::{
-    HashSeed, Key, MOST_BATCH_STATEMENTS, MOST_PARTITIONS, MOST_PLACES, MOST_WORKERS, Outcome,
-    Place, Row, Statement,
+    Grantee, HashSeed, Key, MOST_BATCH_STATEMENTS, MOST_PARTITIONS, MOST_PLACES, MOST_WORKERS,
+    Outcome, Place, RecordName, Row, Statement, records_name_grantees,
 };
 use sequencer::{LogTail, Past, Refused, forget_first};
 use std::alloc::{AllocError, Global};
@@ -179,15 +180,16 @@ fn run_range<T: Threads + Wait + Sync, G: Gate + Sync>(
 }
 
 impl Engine {
-    ghost use Rattle.std.specs.Prelude.{◌↔◌, ◌⊎◌, ◌||◌, false, Option, None, Some, IfErr, IfOk, OnErr, OnOk, drop, is_err, nat_lt, slice_get};
+    ghost use Rattle.std.specs.Prelude.{◌↔◌, ◌⊎◌, ◌||◌, false, Option, None, Some, IfErr, IfOk, OnErr, OnOk, drop, is_err, map, nat_lt, slice_get};
     ghost use Rattle.std.specs.Option.{MatchOption};
     ghost use Rattle.model_base.specs.Outcomes.{deeds_before, outcome, owners, rows_before};
+    ghost use Rattle.model_base.specs.RecordGrantees.{WereGranted, grantee_at};
     ghost use Rattle.chains.specs.Store.{Sweeps, Trims};
     ghost use Rattle.grants_base.specs.Book.{ShowsBook};
     ghost use Rattle.log_text.specs.LineBuffers.{sentence_of};
     ghost use Rattle.log_text.specs.Statement.{IsInGrammar, Sentence};
     ghost use Rattle.sequencer.specs.Foretelling.{IsForetold};
-    ghost use Rattle.sequencer.specs.Log.{empty_log, with_accepted};
+    ghost use Rattle.sequencer.specs.Log.{empty_log, in_version, with_accepted};
     ghost use Rattle.sequencer.specs.Refusal.{IsRefusal, refusal};
     ghost use Rattle.engine.specs.Engine.{IsRun, finished, may_run};
 
@@ -255,6 +257,13 @@ impl Engine {
         self.state.chains.mark()
     }
 
+    /// Sets the version of the log. The places stay as they are.
+    pub fn set_version(&mut self, version: Version)
+        ensures { self.new ≡ record self.old { log = in_version version self.old.log } }
+    {
+        self.log.set_version(version);
+    }
+
     /// Takes a statement as the next place, as the log does. After a refusal the engine is as it was. Its accesses and steps take the
     /// memory of a statement that was forgotten, where that is enough.
     #[inline(always)]
@@ -305,6 +314,21 @@ impl Engine {
     {
         let _dropped = self.log.dropped();
         self.log.give_dropped(statement)
+    }
+
+    /// To whom the grants of some records were made, in order. A record that isn't in the book is passed over. The time for each grows with
+    /// the logarithm of the number of grants. An error means out of memory.
+    pub fn grantees_of(
+        &self,
+        alloc: Global,
+        names: &[RecordName],
+    ) -> Result<Vec<Grantee>, AllocError>
+        ensures { IfOk result (λ found. WereGranted self.now.log.statements (finished self.now) names.now
+            → map (grantee_at self.now.log.statements) names.now ≡ map Some found.items) }
+    {
+        records_name_grantees();
+        let book = self.book();
+        recorded_grantees(alloc, book.records(), names)
     }
 
     /// Runs the next places of the log, up to this one, as a batch, by this many workers and placers: by one worker in order, on this

@@ -7,10 +7,11 @@ use Rattle.model_base.specs.declared.deed.Cause.TheVariants.{Never, Taken}
 use Rattle.model_base.specs.declared.deed.Deed.{Deed}
 use Rattle.model_base.specs.declared.deed.Need.{Need}
 use Rattle.model_base.specs.Privileges.{IsProper, has, owns}
+use Rattle.model_base.specs.Records.{grants_of}
 use Rattle.model_base.proofs.Replay.{by_cases}
 use Rattle.explain.specs.declared.line.Line.{Line}
 use Rattle.explain.specs.declared.line.Shown.{Shown}
-use Rattle.explain.specs.Lines.{IsSound, cause_before, holds_before, shown_lost, shown_of}
+use Rattle.explain.specs.Lines.{HaveOneGrantor, IsSound, cause_before, holds_before, shown_lost, shown_of}
 use Rattle.explain.proofs.Showing.{shown-sound}
 use Rattle.explain.specs.ExplainedNeeds.{AreSound, needs_asked, line_of, explaining_lines, tells_held}
 
@@ -42,8 +43,8 @@ module _ (owners : List ℕ) (deeds : List Deed) (place user : ℕ) where
   lines-missing need needs missing = rw missing refl
 
   -- what explains needs is sound
-  pub lines-sound : IsProper owners deeds → (needs : List Need) → AreSound owners deeds place user needs (explaining_lines owners deeds place user needs)
-  lines-sound proper needs = record { of = same (needs_asked owners deeds place user needs); so = sound (needs_asked owners deeds place user needs) }
+  pub lines-sound : IsProper owners deeds → HaveOneGrantor (grants_of deeds) → (needs : List Need) → AreSound owners deeds place user needs (explaining_lines owners deeds place user needs)
+  lines-sound proper one needs = record { of = same (needs_asked owners deeds place user needs); so = sound (needs_asked owners deeds place user needs) }
     where
       same : (all : List Need) → map (λ (line : Line). line.need) (map (line_of owners deeds place user) all) ≡ all
       same [] = refl
@@ -53,7 +54,7 @@ module _ (owners : List ℕ) (deeds : List Deed) (place user : ℕ) where
       sound [] = All-nil (λ (line : Line). IsSound owners deeds place user line.need line.shown)
       sound (need ∷ all) =
           All-cons (λ (line : Line). IsSound owners deeds place user line.need line.shown) (line_of owners deeds place user need)
-          (map (line_of owners deeds place user) all) (shown-sound owners deeds place user need proper) (sound all)
+          (map (line_of owners deeds place user) all) (shown-sound owners deeds place user need proper one) (sound all)
 
   -- whether it is held, by what is shown
   pub held_by : (need : Need) (shown : Shown) → shown ≡ shown_of owners deeds place user need → tells_held shown ≡ holds_before owners deeds place user need

@@ -46,7 +46,7 @@ module _ (owners : List ℕ) (deeds : List Deed) (place user : ℕ) where
   cause-below need = ap (λ (ds : List Deed). cause owners ds user need) same
 
   -- what was taken before the place was taken below it
-  taken-below : (need : Need) (lost : ℕ) → cause_before owners deeds place user need ≡ Taken lost → lost < place
+  pub taken-below : (need : Need) (lost : ℕ) → cause_before owners deeds place user need ≡ Taken lost → lost < place
   taken-below need lost is =
       let by = cause-revocation owners user need below lost is in
       let there = by.1 in

@@ -11,7 +11,7 @@ use Rattle.model_base.specs.Paths.{LeadsFrom, LeadsTo}
 use Rattle.model_base.specs.Privileges.{gives, option_of, owns}
 use Rattle.model_base.specs.Ranks.{rank}
 use Rattle.grants.proofs.Passing.{given, owns_owner}
-use Rattle.explain.specs.Lines.{IsChain, ranks_of}
+use Rattle.explain.specs.Lines.{IsChain, PlacesRise, ranks_of}
 use Rattle.explain.specs.Steps.{bears_path, leads_to_next, grant_at, leads_on}
 use Rattle.explain.proofs.Standing.{grant_at-among, grant_at-rising}
 
@@ -42,26 +42,26 @@ module _ (grants : List Grant) (user : ℕ) (need : Need) where
       by_found None at = rw at refl
       by_found (Some next) at = rw (at, stops next at) refl
 
-  -- grants that lead on from one, with rising ranks, all of them among the grants
+  -- grants that lead on from one, with rising places, all of them among the grants
   pub record LeadOn (grant : Grant) (ranks : List ℕ) : Type 0 where
     pub chain : List Grant
     pub told : ranks_of chain ≡ ranks
-    pub rising : IsRising (grant ∷ chain)
+    pub rising : PlacesRise (grant ∷ chain)
     pub among : All (Contains grants) chain
     pub leads : LeadsFrom grant chain user need
 
-  after_all : (grant next : Grant) (chain : List Grant) → rank grant < rank next → All (λ later. rank next < rank later) chain
-      → All (λ later. rank grant < rank later) (next ∷ chain)
+  after_all : (grant next : Grant) (chain : List Grant) → grant.place < next.place → All (λ (later : Grant). next.place < later.place) chain
+      → All (λ (later : Grant). grant.place < later.place) (next ∷ chain)
   after_all grant next chain less above =
-      All-cons (λ (later : Grant). rank grant < rank later) next chain less
-      (All-weaker (λ (later : Grant). rank next < rank later) (λ (later : Grant). rank grant < rank later) (λ later more. omega arith) chain above)
+      All-cons (λ (later : Grant). grant.place < later.place) next chain less
+      (All-weaker (λ (later : Grant). next.place < later.place) (λ (later : Grant). grant.place < later.place) (λ later more. omega arith) chain above)
 
   -- what the test says
   pub leads-found : (grant : Grant) (ranks : List ℕ) → leads_on grants grant ranks user need ≡ true → LeadOn grant ranks
   leads-found grant [] is = record {
     chain = [];
     told = refl;
-    rising = (All-nil (λ (later : Grant). rank grant < rank later), tt);
+    rising = (All-nil (λ (later : Grant). grant.place < later.place), tt);
     among = All-nil (Contains grants);
     leads = is;
   }
@@ -73,8 +73,8 @@ module _ (grants : List Grant) (user : ℕ) (need : Need) where
       by_found (Some next) at again =
           let both : (leads_to_next grant next && leads_on grants next ranks user need) ≡ true = rw at at is in
           let parts = and_parts (leads_to_next grant next) (leads_on grants next ranks user need) both in
-          let on = and_parts (nat_lt (rank grant) (rank next)) (gives grant next.grantor (option_of next)) parts.0 in
-          let less : rank grant < rank next = ltb-true (rank grant) (rank next) on.0 in
+          let on = and_parts (nat_lt grant.place next.place) (gives grant next.grantor (option_of next)) parts.0 in
+          let less : grant.place < next.place = ltb-true grant.place next.place on.0 in
           let there = grant_at-among ranked grants next at in
           let rest = again next parts.1 in
           record {
@@ -86,13 +86,13 @@ module _ (grants : List Grant) (user : ℕ) (need : Need) where
           }
 
   -- and what it doesn't miss
-  pub leads-all : IsRising grants → (grant : Grant) (chain : List Grant) → IsRising (grant ∷ chain) → All (Contains grants) chain → LeadsFrom grant chain user need
+  pub leads-all : IsRising grants → (grant : Grant) (chain : List Grant) → PlacesRise (grant ∷ chain) → All (Contains grants) chain → LeadsFrom grant chain user need
       → leads_on grants grant (ranks_of chain) user need ≡ true
   leads-all rise grant [] rising among leads = leads
   leads-all rise grant (next ∷ chain) rising among leads =
-      let less : rank grant < rank next = All-head (λ (later : Grant). rank grant < rank later) next chain rising.0 in
+      let less : grant.place < next.place = All-head (λ (later : Grant). grant.place < later.place) next chain rising.0 in
       let found = grant_at-rising grants next rise (All-head (Contains grants) next chain among) in
-      let on : leads_to_next grant next ≡ true = rw (lt-ltb (rank grant) (rank next) less) leads.0 in
+      let on : leads_to_next grant next ≡ true = rw (lt-ltb grant.place next.place less) leads.0 in
       rw (found, on) (leads-all rise next chain rising.1 (All-tail (Contains grants) next chain among) leads.1)
 
   -- all grants that lead to a need are on its table
@@ -127,7 +127,7 @@ chain_decided owners grants user owner need ranked later owned rise = (λ is. by
           leads = (owned_by, rest.leads);
         }
 
-    by_chain : (chain : List Grant) → ranks_of chain ≡ ranked ∷ later → IsRising chain → All (Contains grants) chain → LeadsTo owners chain user need
+    by_chain : (chain : List Grant) → ranks_of chain ≡ ranked ∷ later → PlacesRise chain → All (Contains grants) chain → LeadsTo owners chain user need
         → bears_path grants owner user need later (grant_at ranked grants) ≡ true
     by_chain [] told rising among leads = absurd (cc)
     by_chain (first ∷ chain) told rising among leads =

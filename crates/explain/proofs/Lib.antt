@@ -9,3 +9,4 @@ pub mod Asked
 pub mod Passing
 pub mod Below
 pub mod RisingPlaces
+pub mod Granted

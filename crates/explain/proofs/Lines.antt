@@ -23,6 +23,7 @@ use Rattle.sequencer.specs.Log.{Accepted}
 use Rattle.sequencer.specs.Whole.{IsAccepted, IsWhole}
 use Rattle.explain.specs.ExplainedNeeds.{AreSound, needs_asked, line_of, explaining_lines, tells_held}
 use Rattle.explain.proofs.Asked.{lines-sound}
+use Rattle.explain.proofs.RisingPlaces.{one-before}
 use Rattle.explain.proofs.Passing.{held_sound}
 use Rattle.explain.proofs.Below.{are_sound-below, lines-below}
 use Rattle.explain.specs.Explained.{LinesAreNamed, IsExplainedBy, explained, lines_for}
@@ -107,7 +108,7 @@ explained-sound log place lines is = by_statement (slice_get log place) refl is
           there = there;
           sound =
               subst (AreSound (owners log) (deeds_before log place) place statement.user (needs statement.form)) same
-              (lines-sound (owners log) (deeds_before log place) place statement.user (deeds_before-stands log place).proper (needs statement.form));
+              (lines-sound (owners log) (deeds_before log place) place statement.user (deeds_before-stands log place).proper (one-before log place) (needs statement.form));
         }
 
 -- what is accepted says who holds what

@@ -1,9 +1,11 @@
--- Along a path of a log places rise: the grants of a place have one grantor, so the earliest that gives its option isn't one of them.
+-- Along a path places rise where the grants of a place have one grantor, as those of a log do: the earliest that gives its option isn't
+-- one of them.
 use Rattle.std.proofs.Common.{◌≡◌, ◌<◌, ◌≤◌, ◌+◌, ◌++◌, ◌∷◌, ℕ, Bool, true, List, [], Option, Some, None, drop, get_or, length, map, take, refl, sym, ◌∙◌, ap, subst, append_assoc, length-append, arith, inl, inr}
-use Rattle.std.specs.Prelude.{All, reverse, slice_get}
+use Rattle.std.specs.Prelude.{All, Contains, reverse, slice_get}
 use Rattle.std.proofs.lemmas.Bool.{cases_lt, true≢false}
 use Rattle.std.proofs.lemmas.List.{take-append-drop}
-use Rattle.std.proofs.lemmas.List.Elements.{All-append, All-cons, All-head, All-nil, All-push, All-tail, All-weaker}
+use Rattle.std.proofs.lemmas.List.Elements.{All-append, All-cons, All-contains, All-contains_itself, All-head, All-nil, All-push, All-tail, All-weaker}
+use Rattle.model_base.specs.declared.deed.Deed.{Deed}
 use Rattle.model_base.specs.declared.deed.Deed.TheVariants.{Granting}
 use Rattle.model_base.specs.declared.deed.Grant.{Grant}
 use Rattle.model_base.specs.declared.deed.Grantee.{Grantee}
@@ -17,18 +19,18 @@ use Rattle.model_base.specs.Body.{Ending, completed, aborted, undeclared}
 use Rattle.model_base.specs.Laws.{IsRising}
 use Rattle.model_base.specs.Outcomes.{World, at_place, body, changed, deeds_at, deeds_before, deeds_of, empty_world, grants_at, grants_of_kind, judged, kinds_in, missing, owners, positions, step_form, world_after}
 use Rattle.model_base.specs.Paths.{path, path_back}
-use Rattle.model_base.specs.Privileges.{IsProper, gives, has, kept, option_of}
+use Rattle.model_base.specs.Privileges.{IsProper, deeds_below, gives, has, kept, option_of}
 use Rattle.model_base.specs.Records.{grants_of}
 use Rattle.model_base.proofs.Growth.{deeds_before-stands}
 use Rattle.model_base.proofs.Parts.{part-all}
 use Rattle.model_base.proofs.Paths.{IsBorne, borne-kept, reverse-cons}
 use Rattle.model_base.proofs.Places.{IsRising-kept}
 use Rattle.model_base.proofs.Ranked.{rank-places}
-use Rattle.model_base.proofs.Recorded.{part-kept_grants}
+use Rattle.model_base.proofs.Recorded.{part-grants_below, part-kept_grants}
 use Rattle.model_base.proofs.Records.{grants-append}
 use Rattle.model_base.proofs.Replay.{by_cases}
 use Rattle.grants.proofs.Passing.{given}
-use Rattle.explain.specs.Lines.{PlacesRise}
+use Rattle.explain.specs.Lines.{HaveOneGrantor, PlacesRise}
 
 -- one grant more, at a later place
 rise-snoc : (grants : List Grant) (grant : Grant) → PlacesRise grants → All (λ (earlier : Grant). earlier.place < grant.place) grants
@@ -130,16 +132,32 @@ one-grantor log grant later is last same =
     let statement : is.0 ≡ last.0 = cc in
     is.1.1 ∙ ap (λ (s : Statement). s.user) statement ∙ sym last.1.1
 
-falls-reverse : (log : List Statement) (grants : List Grant) → IsRising grants → All (IsOf log) grants → FallBack (reverse grants)
-falls-reverse log [] rising of = tt
-falls-reverse log (grant ∷ grants) rising of =
+-- of some grants, of which those of a place have one grantor, the later ones fall back
+falls-reverse : (all grants : List Grant) → HaveOneGrantor all → All (Contains all) grants → IsRising grants → FallBack (reverse grants)
+falls-reverse all [] one among rising = tt
+falls-reverse all (grant ∷ grants) one among rising =
     let Under : Grant → Type 0 = λ (later : Grant). IsUnder later.place later.grantor grant in
-    let here = All-head (IsOf log) grant grants of in
-    let rest = All-tail (IsOf log) grant grants of in
+    let here = All-head (Contains all) grant grants among in
+    let rest = All-tail (Contains all) grant grants among in
     let under : All Under grants = λ k d less.
-    (rank-places grant (get_or grants k d) (rising.0 k d less), one-grantor log grant (get_or grants k d) here (rest k d less)) in
+    (rank-places grant (get_or grants k d) (rising.0 k d less), one grant (get_or grants k d) here (rest k d less)) in
     subst FallBack (sym (reverse-cons grant grants))
-    (falls-snoc (reverse grants) grant (falls-reverse log grants rising.1 rest) (all-reverse Under grants under))
+    (falls-snoc (reverse grants) grant (falls-reverse all grants one rest rising.1) (all-reverse Under grants under))
+
+-- so the places along a path of deeds rise, if their grants of a place have one grantor
+pub rises-along : (own : List ℕ) (deeds : List Deed) (user : ℕ) (need : Need) → IsProper own deeds → HaveOneGrantor (grants_of deeds) → PlacesRise (path own (kept own deeds) user need)
+rises-along own deeds user need proper one =
+    let all = grants_of deeds in
+    path_back-rises own (reverse (kept own deeds)) user need (borne-kept own deeds)
+    (falls-reverse all (kept own deeds) one (part-all (Contains all) (part-kept_grants own deeds) (All-contains_itself all)) (IsRising-kept own deeds proper))
+
+-- the grants of the deeds below a place have one grantor each place, if those of all have
+pub one-below : (place : ℕ) (deeds : List Deed) → HaveOneGrantor (grants_of deeds) → HaveOneGrantor (grants_of (deeds_below place deeds))
+one-below place deeds one =
+    let all = grants_of deeds in
+    let some = grants_of (deeds_below place deeds) in
+    let among : All (Contains all) some = part-all (Contains all) (part-grants_below place deeds) (All-contains_itself all) in
+    λ grant other here there. one grant other (All-contains (Contains all) some grant among here) (All-contains (Contains all) some other among there)
 
 -- what a statement grants is of its place, by its user
 module _ (place user : ℕ) where
@@ -216,11 +234,14 @@ of-before : (log : List Statement) (place : ℕ) → All (IsOf log) (grants_of (
 of-before log place =
     of-after log (owners log) [] (take place log) (drop place log) 0 empty_world (sym (take-append-drop place log)) refl (All-nil (IsOf log))
 
+-- the grants of a place of a log have one grantor
+pub one-before : (log : List Statement) (place : ℕ) → HaveOneGrantor (grants_of (deeds_before log place))
+one-before log place =
+    let all = grants_of (deeds_before log place) in
+    let of = of-before log place in
+    λ grant other here there. one-grantor log grant other (All-contains (IsOf log) all grant of here) (All-contains (IsOf log) all other of there)
+
 -- the places along a path of a log rise
 pub path-rises : (log : List Statement) (place user : ℕ) (need : Need) → PlacesRise (path (owners log) (kept (owners log) (deeds_before log place)) user need)
 path-rises log place user need =
-    let own = owners log in
-    let deeds = deeds_before log place in
-    let proper : IsProper own deeds = (deeds_before-stands log place).proper in
-    path_back-rises own (reverse (kept own deeds)) user need (borne-kept own deeds)
-    (falls-reverse log (kept own deeds) (IsRising-kept own deeds proper) (part-all (IsOf log) (part-kept_grants own deeds) (of-before log place)))
+    rises-along (owners log) (deeds_before log place) user need (deeds_before-stands log place).proper (one-before log place)

@@ -15,11 +15,11 @@ use Rattle.model_base.specs.declared.deed.Record.{Record}
 use Rattle.model_base.specs.Laws.{IsRising}
 use Rattle.model_base.specs.Paths.{LeadsTo, path}
 use Rattle.model_base.specs.Privileges.{IsProper, deeds_below, kept, owns}
-use Rattle.model_base.specs.Records.{cut, holds_by, in_force, last_loss_by, records}
+use Rattle.model_base.specs.Records.{cut, grants_of, holds_by, in_force, last_loss_by, records}
 use Rattle.model_base.proofs.Cuts.{deeds_below-proper, records-below}
 use Rattle.model_base.proofs.Losses.{cause-records, holds_by-cut}
 use Rattle.model_base.proofs.Parts.{part-all}
-use Rattle.model_base.proofs.Paths.{leads-path, part-path, rising-path}
+use Rattle.model_base.proofs.Paths.{leads-path, part-path}
 use Rattle.model_base.proofs.Places.{IsRising-kept}
 use Rattle.model_base.proofs.Records.{in_force-records}
 use Rattle.model_base.proofs.Replay.{by_cases}
@@ -29,9 +29,10 @@ use Rattle.grants_base.specs.declared.entries.Creation.{Creation}
 use Rattle.grants.proofs.BookLaws.{get_more}
 use Rattle.grants.proofs.Passing.{owns_owner}
 use Rattle.grants.proofs.SeenLaws.{entries-view}
-use Rattle.explain.specs.Lines.{IsChain, IsSound, cause_before, holds_before, kept_before, path_before, ranks_of, shown_lost, shown_of}
+use Rattle.explain.specs.Lines.{HaveOneGrantor, IsChain, IsSound, cause_before, holds_before, kept_before, path_before, ranks_of, shown_lost, shown_of}
 use Rattle.explain.specs.Steps.{bears_path, grant_at, in_force_at}
 use Rattle.explain.proofs.Leading.{chain_decided}
+use Rattle.explain.proofs.RisingPlaces.{one-below, rises-along}
 
 -- the grants in force before a place are those of the records, cut there
 pub kept_at : (book : Entries) (owners : List ℕ) (deeds : List Deed) (place : ℕ) → ShowsBook book owners deeds
@@ -85,10 +86,10 @@ chain_told book owners deeds place user owner need ranked later ranks all test s
     rw (split, told, same) (chain_at book owners deeds place user owner need ranked later shows less is)
 
 -- a path of grants that isn't empty is a chain
-path-chain : (owners : List ℕ) (deeds : List Deed) (place user : ℕ) (need : Need) → IsProper owners deeds
+path-chain : (owners : List ℕ) (deeds : List Deed) (place user : ℕ) (need : Need) → IsProper owners deeds → HaveOneGrantor (grants_of deeds)
     → owns owners user need.table ≡ false → holds_before owners deeds place user need ≡ true
     → IsChain owners (kept_before owners deeds place) user need (path_before owners deeds place user need)
-path-chain owners deeds place user need proper other held =
+path-chain owners deeds place user need proper one other held =
     let below = deeds_below place deeds in
     let way = path owners (kept owners below) user need in
     let leads = leads-path owners below user need held in
@@ -96,7 +97,7 @@ path-chain owners deeds place user need proper other held =
       chain = way;
       told = refl;
       some = some way leads;
-      rising = rising-path owners below user need (deeds_below-proper owners place deeds proper);
+      rising = rises-along owners below user need (deeds_below-proper owners place deeds proper) (one-below place deeds one);
       among = part-all (Contains (kept owners below)) (part-path owners (kept owners below) user need) (All-contains_itself (kept owners below));
       leads = leads;
     }
@@ -129,18 +130,18 @@ lost-before owners deeds place user need lost proper is =
     let found : by ≡ Some lost = taken-lost by lost (sym (cause-records owners user need deeds place proper) ∙ is) in
     sym (holds_by-cut owners deeds lost user need proper) ∙ lost-held owners (records owners deeds) user need place lost found
 
--- what there is to show is sound
-pub shown-sound : (owners : List ℕ) (deeds : List Deed) (place user : ℕ) (need : Need) → IsProper owners deeds
+-- what there is to show is sound, where the grants of a place have one grantor
+pub shown-sound : (owners : List ℕ) (deeds : List Deed) (place user : ℕ) (need : Need) → IsProper owners deeds → HaveOneGrantor (grants_of deeds)
     → IsSound owners deeds place user need (shown_of owners deeds place user need)
-shown-sound owners deeds place user need proper =
+shown-sound owners deeds place user need proper one =
     by_cases (owns owners user need.table)
     (λ owned. rw owned owned)
     (λ other. by_cases (holds_before owners deeds place user need)
-    (λ held. rw (other, held) (path-chain owners deeds place user need proper other held))
+    (λ held. rw (other, held) (path-chain owners deeds place user need proper one other held))
     (λ missing. rw (other, missing) (by_cause (cause_before owners deeds place user need) refl other missing)))
   where
     by_cause : (why : Cause) → cause_before owners deeds place user need ≡ why → owns owners user need.table ≡ false → holds_before owners deeds place user need ≡ false
         → IsSound owners deeds place user need (shown_lost owners deeds user need why)
     by_cause Never is other missing = (missing, is)
     by_cause (Taken lost) is other missing =
-        (missing, is, path-chain owners deeds lost user need proper other (lost-before owners deeds place user need lost proper is))
+        (missing, is, path-chain owners deeds lost user need proper one other (lost-before owners deeds place user need lost proper is))

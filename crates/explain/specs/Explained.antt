@@ -5,8 +5,10 @@ use Rattle.std.specs.Prelude.{◌≡◌, ◌<◌, ℕ, List, Option, Some, All, 
 use Rattle.std.specs.Option.{option_map}
 use Rattle.model_base.specs.declared.statement.Statement.{Statement}
 use Rattle.model_base.specs.Outcomes.{deeds_before, needs, owners}
+use Rattle.model_base.specs.RecordGrantees.{WereGranted}
 use Rattle.explain.specs.declared.line.Line.{Line}
 use Rattle.explain.specs.ExplainedNeeds.{AreSound, explaining_lines}
+use Rattle.explain.specs.Lines.{ranks_shown}
 
 -- the lines that explain a statement at a place of the log
 abbrev pub lines_for : List Statement → ℕ → Statement → List Line
@@ -25,3 +27,7 @@ pub record IsExplainedBy (log : List Statement) (place : ℕ) (lines : List Line
 -- the lines name no table but the first this many
 abbrev pub LinesAreNamed : ℕ → List Line → Type 0
 LinesAreNamed tables lines = All (λ (line : Line). line.need.table < tables) lines
+
+-- the records that the lines show are of grants that were made before the place
+abbrev pub LinesAreGranted : List Statement → ℕ → List Line → Type 0
+LinesAreGranted log place lines = All (λ (line : Line). WereGranted log place (ranks_shown line.shown)) lines

@@ -8,7 +8,6 @@ use Rattle.model_base.specs.declared.deed.Cause.TheVariants.{Never, Taken}
 use Rattle.model_base.specs.declared.deed.Deed.{Deed}
 use Rattle.model_base.specs.declared.deed.Grant.{Grant}
 use Rattle.model_base.specs.declared.deed.Need.{Need}
-use Rattle.model_base.specs.Laws.{IsRising}
 use Rattle.model_base.specs.Outcomes.{cause}
 use Rattle.model_base.specs.Paths.{LeadsTo, path}
 use Rattle.model_base.specs.Privileges.{deeds_below, holds, kept, owns}
@@ -41,13 +40,18 @@ abbrev pub PlacesRise : List Grant → Type 0
 PlacesRise [] = Unit {0}
 PlacesRise (grant ∷ grants) = All (λ (later : Grant). grant.place < later.place) grants × PlacesRise grants
 
--- the ranks are those of a chain of some of the grants that bears the need: it isn't empty, its ranks rise, the owner of the
--- table made the first, each gives the grantor of the next the option, and the last gives the user what is needed
+-- the grants of one place have one grantor, as those of a statement do
+abbrev pub HaveOneGrantor : List Grant → Type 0
+HaveOneGrantor grants =
+    (grant other : Grant) → Contains grants grant → Contains grants other → grant.place ≡ other.place → grant.grantor ≡ other.grantor
+
+-- the ranks are those of a chain of some of the grants that bears the need: it isn't empty, its places rise, the owner of
+-- the table made the first, each gives the grantor of the next the option, and the last gives the user what is needed
 pub record IsChain (owners : List ℕ) (grants : List Grant) (user : ℕ) (need : Need) (ranks : List ℕ) : Type 0 where
   pub chain : List Grant
   pub told : ranks_of chain ≡ ranks
   pub some : 0 < length ranks
-  pub rising : IsRising chain
+  pub rising : PlacesRise chain
   pub among : All (Contains grants) chain
   pub leads : LeadsTo owners chain user need
 
@@ -74,3 +78,10 @@ shown_of owners deeds place user need =
     if owns owners user need.table then Shown.Owner
     else (if holds_before owners deeds place user need then Shown.Grants (path_before owners deeds place user need)
     else shown_lost owners deeds user need (cause_before owners deeds place user need))
+
+-- the ranks of the records that are shown
+abbrev pub ranks_shown : Shown → List ℕ
+ranks_shown Shown.Owner = []
+ranks_shown (Shown.Grants ranks) = ranks
+ranks_shown Shown.Never = []
+ranks_shown (Shown.Taken lost ranks) = ranks

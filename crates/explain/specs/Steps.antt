@@ -48,9 +48,9 @@ in_force_at place entries = in_force (cut place entries)
 abbrev pub grant_at : ℕ → List Grant → Option Grant
 grant_at ranked grants = find (λ grant. rank grant == ranked) grants
 
--- whether the next grant goes on from this one: it is later, and by who has the option from this one
+-- whether the next grant goes on from this one: it has a later place, and is by who has the option from this one
 abbrev pub leads_to_next : Grant → Grant → Bool
-leads_to_next grant next = nat_lt (rank grant) (rank next) && gives grant next.grantor (option_of next)
+leads_to_next grant next = nat_lt grant.place next.place && gives grant next.grantor (option_of next)
 
 -- whether the grants of these ranks, among some grants, lead on from a grant to the need
 abbrev pub leads_on : List Grant → Grant → List ℕ → ℕ → Need → Bool

@@ -21,11 +21,11 @@ fn is_in_force(entry: &Record, place: Place) -> bool
     entry.grant.place < place && entry.end.is_none_or(|end| place <= end)
 }
 
-/// Whether the next grant goes on from this one: it is later, and by who has the option from this one.
+/// Whether the next grant goes on from this one: it has a later place, and is by who has the option from this one.
 fn goes_on(grant: &Grant, next: &Grant) -> bool
     ensures { result ≡ leads_to_next grant.now next.now }
 {
-    grant.name().is_before(next.name()) && grant.gives(next.grantor, &option_of(next))
+    grant.place < next.place && grant.gives(next.grantor, &option_of(next))
 }
 
 /// The check of a chain of grants for what a user needs before a place, by the records of all grants.
@@ -95,10 +95,10 @@ pub(crate) fn owner_of(book: &Book, table: Table) -> User
     book.tables()[table.0 as usize].owner
 }
 
-/// Whether the records are those of a chain of grants, in force before a place, that bears what the user needs: there is at least one, they
-/// are in order, the table's owner made the first, each gives the grantor of the next the option, and the last gives the user what is
-/// needed. It may be another chain than the path. It doesn't allocate, and takes for each record a time that grows with the logarithm of the
-/// number of grants.
+/// Whether the records are those of a chain of grants, in force before a place, that bears what the user needs: there is at least one,
+/// their places rise, the table's owner made the first, each gives the grantor of the next the option, and the last gives the user what is
+/// needed. It may be another chain than the path. It doesn't allocate, and takes for each record a time that grows with the logarithm of
+/// the number of grants.
 pub fn is_chain(book: &Book, place: Place, user: User, need: &Need, names: &[RecordName]) -> bool
     requires covered { need.now.table < length book.now.tables }
     ensures { (owners : List ℕ) (deeds : List Deed) → ShowsBook book.now owners deeds

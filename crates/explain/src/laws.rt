@@ -1,13 +1,13 @@
 //! What holds of all explanations.
 
-ghost use Rattle.std.specs.Prelude.{◌≡◌, ◌↔◌, ℕ, All, List, Some, slice_get, true};
+ghost use Rattle.std.specs.Prelude.{◌≡◌, ◌≤◌, ◌↔◌, ℕ, All, List, Some, slice_get, true};
 ghost use Rattle.model_base.specs.Admitted.{IsPrivileged};
 ghost use Rattle.model_base.specs.Outcomes.{deeds_before, owners};
 ghost use Rattle.model_base.specs.Privileges.{holds};
 ghost use Rattle.model_base.specs.declared.statement.Statement.{Statement};
 ghost use Rattle.explain.specs.declared.line.Line.{Line};
 ghost use Rattle.explain.specs.ExplainedNeeds.{tells_held};
-ghost use Rattle.explain.specs.Explained.{IsExplainedBy, explained};
+ghost use Rattle.explain.specs.Explained.{IsExplainedBy, LinesAreGranted, explained};
 
 /// The lines that explain a place are sound, so the check accepts them.
 pub fn explanations_are_sound()
@@ -26,4 +26,12 @@ pub fn accepted_needs_are_held()
         → slice_get log place ≡ Some statement → IsExplainedBy log place lines
         → All (λ (line : Line). (tells_held line.shown ≡ true)
         ↔ IsPrivileged (owners log) (deeds_before log place) statement.user line.need) lines }
+{}
+
+/// The records that explain a place are of grants that were made before it, and so before each later place.
+pub fn explanations_name_earlier_grants()
+    ensures granted { (log : List Statement) (place : ℕ) (lines : List Line)
+        → explained log place ≡ Some lines → LinesAreGranted log place lines }
+    ensures later { (log : List Statement) (place later : ℕ) (lines : List Line)
+        → explained log place ≡ Some lines → place ≤ later → LinesAreGranted log later lines }
 {}

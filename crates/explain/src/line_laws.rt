@@ -2,15 +2,17 @@
 
 ghost use Rattle.std.specs.Prelude.{◌≡◌, ◌↔◌, ℕ, List};
 ghost use Rattle.model_base.specs.Privileges.{IsProper, deeds_below};
+ghost use Rattle.model_base.specs.Records.{grants_of};
 ghost use Rattle.model_base.specs.declared.deed.Deed.{Deed};
 ghost use Rattle.model_base.specs.declared.deed.Need.{Need};
 ghost use Rattle.explain.specs.declared.line.Line.{Line};
 ghost use Rattle.explain.specs.ExplainedNeeds.{AreSound, explaining_lines};
+ghost use Rattle.explain.specs.Lines.{HaveOneGrantor};
 
-/// The lines that explain needs are sound, so the check accepts them.
+/// The lines that explain needs are sound, so the check accepts them, if the grants of each place have one grantor.
 pub fn explained_needs_are_sound()
     ensures { (owners : List ℕ) (deeds : List Deed) (place user : ℕ) (needs : List Need) → IsProper owners deeds
-        → AreSound owners deeds place user needs (explaining_lines owners deeds place user needs) }
+        → HaveOneGrantor (grants_of deeds) → AreSound owners deeds place user needs (explaining_lines owners deeds place user needs) }
 {}
 
 /// Deeds at a place, or after it, explain nothing there: the lines that explain needs, and whether lines are sound, are the same for all

@@ -4,7 +4,7 @@ use Rattle.std.specs.Option.{option_to_list}
 use Rattle.std.proofs.lemmas.List.{append-nil}
 use Rattle.model_base.specs.declared.deed.Deed.{Deed}
 use Rattle.model_base.specs.Laws.{AreGrantsOrRevocation}
-use Rattle.model_base.specs.Outcomes.{deed_done, deeds_before, deeds_of, owners, world_before}
+use Rattle.model_base.specs.Outcomes.{deed_done, deeds_before, owners, world_before}
 use Rattle.model_base.specs.Privileges.{place_of}
 use Rattle.model_base.proofs.Made.{deeds_of-one, deeds_of-placed}
 use Rattle.grants_base.specs.Book.{table_of_deed}
