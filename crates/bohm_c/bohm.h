@@ -70,7 +70,8 @@ int32_t bohm_step(bohm *handle, const uint8_t *input, size_t input_len, uint8_t 
  * out_len, that was all and the report is whole. Call it again while it fills out. DONE, MEMORY, FULL, CLOSED. */
 int32_t bohm_finish(bohm *handle, uint8_t *out, size_t out_len, size_t *made);
 
-/* How many lines were reported, and how many statements were accepted, which is the next place. 0 where the handle is closed. */
+/* How many lines were reported, with the heading of version 2, which has no line of the report; and how many statements were accepted,
+ * which is the next place. 0 where the handle is closed. */
 uint64_t bohm_lines(bohm *handle);
 uint64_t bohm_places(bohm *handle);
 

@@ -63,3 +63,18 @@ tables-more spell place tables count creation start before after within there so
     put ∙ ap (λ (items : List ℕ). items ++ last) so_far
     ∙ append_assoc start (flat_map spell (tables_drawn place past)) last
     ∙ ap (λ (items : List ℕ). start ++ items) (sym lines)
+
+-- one more line is spelled after the others
+pub spelled-more : {X : Type 0} (spell : X → List ℕ) (lines : List X) (index : ℕ) (line : X) (start before after : List ℕ)
+    → index < length lines → line ≡ get_or lines index line
+    → before ≡ start ++ flat_map spell (take index lines) → after ≡ before ++ spell line
+    → after ≡ start ++ flat_map spell (take (index + 1) lines)
+spelled-more spell lines index line start before after within there so_far put =
+    let past = take index lines in
+    let text : flat_map spell (take (index + 1) lines) ≡ flat_map spell past ++ spell line =
+    ap (flat_map spell) (take_more lines index line within ∙ ap (λ next. past ++ next ∷ []) (sym there))
+    ∙ flat_map-append spell past (line ∷ [])
+    ∙ ap (λ (last : List ℕ). flat_map spell past ++ last) (append-nil (spell line)) in
+    put ∙ ap (λ (items : List ℕ). items ++ spell line) so_far
+    ∙ append_assoc start (flat_map spell past) (spell line)
+    ∙ ap (λ (items : List ℕ). start ++ items) (sym text)

@@ -1,23 +1,34 @@
 -- The answer about a place of a log is the answer about the place of a log to which more is appended.
-use Rattle.std.proofs.Common.{◌≡◌, ◌<◌, ◌++◌, ◌∷◌, [], ℕ, List, Option, None, Some, length, refl, sym, ◌∙◌, ap, subst, arith}
+use Rattle.std.proofs.Common.{◌≡◌, ◌<◌, ◌++◌, ◌∷◌, [], ℕ, List, Option, None, Some, drop, length, refl, sym, ◌∙◌, ap, subst, arith}
 use Rattle.std.specs.Prelude.{All, codes, if◌then◌else◌, slice_get}
+use Rattle.std.specs.List.{flat_map}
 use Rattle.std.specs.Option.{option_map}
 use Rattle.std.proofs.lemmas.List.Elements.{All-head, All-tail}
 use Rattle.std.proofs.lemmas.Option.{slice_get_within}
+use Rattle.model_base.specs.declared.deed.Cause.TheVariants.{Taken}
 use Rattle.model_base.specs.declared.deed.Deed.{Deed}
 use Rattle.model_base.specs.declared.deed.Need.{Need}
 use Rattle.model_base.specs.declared.statement.Statement.{Statement}
 use Rattle.model_base.specs.Outcomes.{World, deeds_before, needs, owners}
+use Rattle.model_base.specs.RecordGrantees.{WereGranted}
 use Rattle.model_base.proofs.Growing.{get-front, owners-append, world-stands}
 use Rattle.model_base.proofs.Growth.{deeds_before-stands}
 use Rattle.explain.specs.declared.line.Line.{Line}
+use Rattle.explain.specs.declared.line.Shown.{Shown}
 use Rattle.explain.specs.ExplainedNeeds.{explaining_lines}
+use Rattle.log_text.specs.declared.version.Version.{Version}
+use Rattle.sequencer.specs.Catalog.{Names}
+use Rattle.sequencer.specs.Foretelling.{Begins}
 use Rattle.sequencer.specs.Log.{Accepted}
 use Rattle.sequencer.specs.Whole.{IsWhole}
+use Rattle.sequencer.proofs.Beginnings.{behind}
 use Rattle.report.specs.Report.{place_text}
-use Rattle.bohm_base.proofs.Reporting.{name-longer}
+use Rattle.report.specs.Text.{cause_text, need_text, record_in, records_text, table_name}
+use Rattle.bohm_base.proofs.Reporting.{granted-known, name-longer, records-longer}
 use Rattle.batched_text.proofs.Reports.{needs-own, place-same}
-use Rattle.explain.specs.Explained.{LinesAreNamed, explained, lines_for}
+use Rattle.explain.specs.Explained.{LinesAreGranted, LinesAreNamed, explained, lines_for}
+use Rattle.explain.specs.Lines.{ranks_shown}
+use Rattle.explain.proofs.Granted.{explained-granted}
 use Rattle.explain.proofs.Lines.{lines-named, needs_named}
 use Rattle.audit_text.specs.Explanation.{explanation_text, need_line_text, shown_text}
 use Rattle.log_text.specs.Statement.{kind_word}
@@ -38,26 +49,52 @@ explained-there log place lines is = by_statement (slice_get log place) refl is
 pub explained-within : (log : List Statement) (place : ℕ) (lines : List Line) → explained log place ≡ Some lines → place < length log
 explained-within log place lines is = let found = explained-there log place lines is in slice_get_within log place found.0 found.1.0
 
--- a line names the same table where others come after it
-line-longer : (tables extra : List (List ℕ)) (line : Line) → line.need.table < length tables → need_line_text (tables ++ extra) line ≡ need_line_text tables line
-line-longer tables extra line low =
-    ap (λ (name : List ℕ). codes "need "
-    ++ (kind_word line.need.kind ++ codes " " ++ name ++ (if line.need.option then codes " option" else []))
-    ++ shown_text line.shown ++ codes "\n")
-    (name-longer tables extra line.need.table low)
+module _ (log : Accepted) (whole : IsWhole log) (more : List Statement) (later : Names) (begins : Begins log.names later) (same : later.version ≡ log.names.version) where
+  abbrev all : List Statement
+  all = log.statements ++ more
 
-lines-longer : (tables extra : List (List ℕ)) (lines : List Line) → LinesAreNamed (length tables) lines
-    → explanation_text (tables ++ extra) lines ≡ explanation_text tables lines
-lines-longer tables extra [] named = refl
-lines-longer tables extra (line ∷ lines) named =
-    let P : Line → Type 0 = λ l. l.need.table < length tables in
-    ap (λ (text : List ℕ). text ++ explanation_text (tables ++ extra) lines) (line-longer tables extra line (All-head P line lines named))
-    ∙ ap (λ (text : List ℕ). need_line_text tables line ++ text) (lines-longer tables extra lines (All-tail P line lines named))
+  -- records of grants that were made are spelled the same
+  records-same : (place : ℕ) (ranks : List ℕ) → WereGranted log.statements place ranks → records_text all later ranks ≡ records_text log.statements log.names ranks
+  records-same place ranks were =
+      let names : Names = log.names in
+      let extra : List (List ℕ) = drop (length names.users) later.users in
+      ap (λ (v : Version). flat_map (λ ranked. 32 ∷ record_in v all later.users ranked) ranks) same
+      ∙ ap (λ (users : List (List ℕ)). flat_map (λ ranked. 32 ∷ record_in names.version all users ranked) ranks) (behind names.users later.users begins.users)
+      ∙ records-longer log.statements more names.users extra names.version ranks (granted-known log whole place ranks were)
 
-module _ (log : Accepted) (whole : IsWhole log) (more : List Statement) (extra : List (List ℕ)) where
+  shown-same : (place : ℕ) (shown : Shown) → WereGranted log.statements place (ranks_shown shown)
+      → shown_text all later shown ≡ shown_text log.statements log.names shown
+  shown-same place Shown.Owner were = refl
+  shown-same place (Shown.Grants ranks) were = ap (λ (text : List ℕ). codes " grants" ++ text) (records-same place ranks were)
+  shown-same place Shown.Never were = refl
+  shown-same place (Shown.Taken lost ranks) were = ap (λ (text : List ℕ). cause_text (Taken lost) ++ (codes " grants" ++ text)) (records-same place ranks were)
+
+  -- and a line names the same table
+  line-same : (place : ℕ) (line : Line) → line.need.table < length log.names.tables → WereGranted log.statements place (ranks_shown line.shown)
+      → need_line_text all later line ≡ need_line_text log.statements log.names line
+  line-same place line low were =
+      let names : Names = log.names in
+      ap (λ (name : List ℕ). codes "need "
+      ++ (kind_word line.need.kind ++ codes " " ++ name ++ (if line.need.option then codes " option" else []))
+      ++ shown_text all later line.shown ++ codes "\n")
+      (ap (λ (tables : List (List ℕ)). table_name tables line.need.table) (behind names.tables later.tables begins.tables)
+      ∙ name-longer names.tables (drop (length names.tables) later.tables) line.need.table low)
+      ∙ ap (λ (text : List ℕ). codes "need " ++ need_text names.tables line.need ++ text ++ codes "\n") (shown-same place line.shown were)
+
+  lines-same : (place : ℕ) (lines : List Line) → LinesAreNamed (length log.names.tables) lines → LinesAreGranted log.statements place lines
+      → explanation_text all later lines ≡ explanation_text log.statements log.names lines
+  lines-same place [] named were = refl
+  lines-same place (line ∷ lines) named were =
+      let P : Line → Type 0 = λ l. l.need.table < length log.names.tables in
+      let Q : Line → Type 0 = λ l. WereGranted log.statements place (ranks_shown l.shown) in
+      ap (λ (text : List ℕ). text ++ explanation_text all later lines)
+      (line-same place line (All-head P line lines named) (All-head Q line lines were))
+      ∙ ap (λ (text : List ℕ). need_line_text log.statements log.names line ++ text)
+      (lines-same place lines (All-tail P line lines named) (All-tail Q line lines were))
+
   -- the same lines explain a place
   lines_for-longer : (place : ℕ) (statement : Statement) → place < length log.statements → slice_get log.statements place ≡ Some statement
-      → lines_for (log.statements ++ more) place statement ≡ lines_for log.statements place statement
+      → lines_for all place statement ≡ lines_for log.statements place statement
   lines_for-longer place statement low there =
       let own = owners log.statements in
       let user = statement.user in
@@ -71,27 +108,27 @@ module _ (log : Accepted) (whole : IsWhole log) (more : List Statement) (extra :
       ∙ ap (λ (ds : List Deed). explaining_lines (own ++ owners more) ds place user needed) deeds
       ∙ lines-more own (owners more) (deeds_before log.statements place) place user needed (deeds_before-stands log.statements place).proper within
 
-  pub answers-longer : (question : Question) (text : List ℕ) → AnswersAccepted log question text
-      → Answers (log.statements ++ more) (log.names.tables ++ extra) question text
+  pub answers-longer : (question : Question) (text : List ℕ) → AnswersAccepted log question text → Answers all later question text
   answers-longer question text answers =
       let place = question.place in
       let lines : List Line = answers.0 in
       let found = explained-there log.statements place lines answers.1.0 in
       let statement : Statement = found.0 in
       let low : place < length log.statements = slice_get_within log.statements place statement found.1.0 in
-      let there : slice_get (log.statements ++ more) place ≡ Some statement = get-front log.statements more place low ∙ found.1.0 in
+      let there : slice_get all place ≡ Some statement = get-front log.statements more place low ∙ found.1.0 in
       let named : LinesAreNamed (length log.names.tables) lines =
       subst (LinesAreNamed (length log.names.tables)) found.1.1
       (lines-named (length log.names.tables) (owners log.statements) (deeds_before log.statements place) place statement.user (needs statement.form)
       (needs_named log whole place statement found.1.0)) in
-      let spelled : answer_text log.statements log.names.tables question lines ≡ answer_text (log.statements ++ more) (log.names.tables ++ extra) question lines =
-      ap (λ (t : List ℕ). t ++ explanation_text log.names.tables lines ++ (if question.is_checked then codes "checked\n" else []))
-      (sym (place-same log whole more extra place low))
-      ∙ ap (λ (t : List ℕ). place_text (log.statements ++ more) (log.names.tables ++ extra) place ++ t ++ (if question.is_checked then codes "checked\n" else []))
-      (sym (lines-longer log.names.tables extra lines named)) in (
+      let checked : List ℕ = if question.is_checked then codes "checked\n" else [] in
+      let spelled : answer_text log.statements log.names question lines ≡ answer_text all later question lines =
+      ap (λ (t : List ℕ). t ++ explanation_text log.statements log.names lines ++ checked)
+      (sym (place-same log whole more later begins same place low))
+      ∙ ap (λ (t : List ℕ). place_text all later place ++ t ++ checked)
+      (sym (lines-same place lines named (explained-granted log.statements place lines answers.1.0))) in (
         lines,
         (
-          ap (option_map (lines_for (log.statements ++ more) place)) there
+          ap (option_map (lines_for all place)) there
               ∙ ap (λ (ls : List Line). Some ls) (lines_for-longer place statement low found.1.0 ∙ found.1.1),
           answers.1.1 ∙ spelled,
         ),

@@ -2,25 +2,28 @@
 use Rattle.std.specs.Prelude.{ℕ, List, ◌++◌, codes}
 use Rattle.std.specs.List.{flat_map}
 use Rattle.model_base.specs.declared.deed.Cause.TheVariants.{Never, Taken}
+use Rattle.model_base.specs.declared.statement.Statement.{Statement}
+use Rattle.sequencer.specs.Catalog.{Names}
 use Rattle.explain.specs.declared.line.Line.{Line}
 use Rattle.explain.specs.declared.line.Shown.{Shown}
 use Rattle.report.specs.Text.{cause_text, need_text, records_text}
 
--- the places of a chain of grants
-abbrev pub grants_text : List ℕ → List ℕ
-grants_text ranks = codes " grants" ++ records_text ranks
+-- the records of a chain of grants
+abbrev pub grants_text : List Statement → Names → List ℕ → List ℕ
+grants_text log names ranks = codes " grants" ++ records_text log names ranks
 
 -- how a need is held, or since when it isn't and by which grants it was held until then
-abbrev pub shown_text : Shown → List ℕ
-shown_text Shown.Owner = codes " owner"
-shown_text (Shown.Grants ranks) = grants_text ranks
-shown_text Shown.Never = cause_text Never
-shown_text (Shown.Taken lost ranks) = cause_text (Taken lost) ++ grants_text ranks
+abbrev pub shown_text : List Statement → Names → Shown → List ℕ
+shown_text log names Shown.Owner = codes " owner"
+shown_text log names (Shown.Grants ranks) = grants_text log names ranks
+shown_text log names Shown.Never = cause_text Never
+shown_text log names (Shown.Taken lost ranks) = cause_text (Taken lost) ++ grants_text log names ranks
 
--- a need and what is shown of it; `tables` has the names of the tables by number
-abbrev pub need_line_text : List (List ℕ) → Line → List ℕ
-need_line_text tables line = codes "need " ++ need_text tables line.need ++ shown_text line.shown ++ codes "\n"
+-- a need and what is shown of it; `names` has the names of the log
+abbrev pub need_line_text : List Statement → Names → Line → List ℕ
+need_line_text log names line =
+    codes "need " ++ need_text names.tables line.need ++ shown_text log names line.shown ++ codes "\n"
 
 -- the lines of an explanation
-abbrev pub explanation_text : List (List ℕ) → List Line → List ℕ
-explanation_text tables lines = flat_map (need_line_text tables) lines
+abbrev pub explanation_text : List Statement → Names → List Line → List ℕ
+explanation_text log names lines = flat_map (need_line_text log names) lines

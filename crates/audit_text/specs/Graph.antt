@@ -1,6 +1,6 @@
 -- How the grants in force at a place are spelled, as a digraph of Graphviz. Names are between quotes as they are: one that the grammar
 -- reads has small letters, digits and `_` alone (docs/FORMAT.md), so it holds no quote and no backslash.
-use Rattle.std.specs.Prelude.{◌++◌, ◌&&◌, ℕ, Bool, List, [], codes, if◌then◌else◌, slice_get, unwrap_or}
+use Rattle.std.specs.Prelude.{◌++◌, ◌&&◌, ℕ, Bool, List, [], codes, if◌then◌else◌}
 use Rattle.std.specs.Fmt.{decimal}
 use Rattle.std.specs.List.{flat_map, list_any}
 use Rattle.model_base.specs.declared.deed.Cause.TheVariants.{Taken}
@@ -13,14 +13,10 @@ use Rattle.model_base.specs.Privileges.{same_grantee}
 use Rattle.model_base.specs.Records.{is_in_force_at}
 use Rattle.grants_base.specs.Book.{Entries}
 use Rattle.grants_base.specs.declared.entries.Creation.{Creation}
-use Rattle.report.specs.Text.{cause_text, need_text, table_name}
+use Rattle.report.specs.Text.{cause_text, need_text, table_name, user_name}
 use Rattle.audit_text.specs.Drawn.{drawn, fell_at, tables_drawn}
 
--- the name of a user; `users` has the names by number
-abbrev pub user_name : List (List ℕ) → ℕ → List ℕ
-user_name users user = unwrap_or (slice_get users user) []
-
--- a user as a node
+-- a user as a node; `users` has the names by number
 abbrev pub user_text : List (List ℕ) → ℕ → List ℕ
 user_text users user = codes "\"" ++ user_name users user ++ codes "\""
 

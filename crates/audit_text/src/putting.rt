@@ -3,7 +3,7 @@
 ghost use Rattle.std.specs.Prelude.{◌≡◌, ◌<◌, ◌≤◌, ◌++◌, ◌⊎◌, [], Err, IfErr, IfOk, OnOk, Some, codes, length};
 ghost use Rattle.engine.specs.Engine.{finished};
 ghost use Rattle.report.specs.Report.{place_text};
-ghost use Rattle.explain.specs.Explained.{LinesAreNamed, IsExplainedBy, explained};
+ghost use Rattle.explain.specs.Explained.{IsExplainedBy, LinesAreGranted, LinesAreNamed, explained};
 ghost use Rattle.audit_text.specs.Explanation.{explanation_text};
 ghost use Rattle.audit_text.specs.Answer.{AnswersAccepted};
 
@@ -12,7 +12,10 @@ use crate::fault::AuditFault;
 use crate::question::Question;
 use batched_text::put_place;
 use engine::Engine;
-use explain::{ExplainFault, Explanation, check, explain, explanations_are_sound};
+use explain::{
+    ExplainFault, Explanation, check, explain, explanations_are_sound,
+    explanations_name_earlier_grants,
+};
 use model_base::Place;
 use std::alloc::{AllocError, Global};
 
@@ -54,6 +57,7 @@ fn put_checked(
 
 /// Writes the report's line for a place, and then a line for each need that explains it.
 fn put_explained(
+    alloc: Global,
     text: &mut Vec<u8>,
     engine: &Engine,
     explanation: &Explanation,
@@ -61,12 +65,13 @@ fn put_explained(
     requires kept { engine.now.dropped ≤ explanation.now.place }
     requires within { explanation.now.place < finished engine.now }
     requires named { LinesAreNamed (length engine.now.log.names.tables) explanation.now.lines.items }
+    requires granted { LinesAreGranted engine.now.log.statements (finished engine.now) explanation.now.lines.items }
     ensures { OnOk result (text.new.items ≡ text.old.items
-        ++ place_text engine.now.log.statements engine.now.log.names.tables explanation.now.place
-        ++ explanation_text engine.now.log.names.tables explanation.now.lines.items) }
+        ++ place_text engine.now.log.statements engine.now.log.names explanation.now.place
+        ++ explanation_text engine.now.log.statements engine.now.log.names explanation.now.lines.items) }
 {
-    put_place(text, engine, explanation.place)?;
-    put_explanation(text, engine.log().catalog().tables(), explanation)
+    put_place(alloc, text, engine, explanation.place)?;
+    put_explanation(alloc, text, engine, explanation)
 }
 
 /// Appends the answer to a question about a place of the log to the text. An error means out of memory.
@@ -82,8 +87,9 @@ fn put_found(
     ensures { OnOk result (AnswersAccepted engine.now.log question text.new.items) }
 {
     explanations_are_sound();
+    explanations_name_earlier_grants();
     let found = explain_place(alloc, engine, question.place)?;
-    put_explained(text, engine, &found)?;
+    put_explained(alloc, text, engine, &found)?;
     if question.is_checked {
         put_checked(text, engine, &found)?;
     }

@@ -9,7 +9,7 @@ use Rattle.sequencer.specs.Catalog.{Names}
 use Rattle.sequencer.specs.Log.{Accepted, empty_log}
 use Rattle.sequencer.specs.Refusal.{refusal}
 use Rattle.sequencer.specs.declared.refused.Refused.{Refused}
-use Rattle.report.specs.Report.{ParsedLine, accepted, faulty, read, statement_if}
+use Rattle.report.specs.Report.{ParsedLine, accepted, faulty, the_heading, read, statement_if}
 use Rattle.bohm_base.specs.declared.collecting.LineOutcome.{LineOutcome}
 use Rattle.bohm_base.specs.Collecting.{Collects, IsLogOf, line_outcome, outcome_unless, log_text, places_of}
 use Rattle.bohm_base.proofs.Beginnings.{rest_lost}
@@ -35,6 +35,7 @@ one_if names sentence None = omega arith
 one_if names sentence (Some refused) = omega arith
 
 places_are : (names : Names) (reading : ParsedLine) → places_of (line_outcome names reading) ≡ length (accepted names reading)
+places_are names the_heading = refl
 places_are names (read sentence) = places_if names sentence (refusal names sentence)
 places_are names (faulty fault) = refl
 
@@ -49,6 +50,7 @@ counted_more old new reading counted takes =
 
 -- a line adds one statement at most
 pub one_more : (names : Names) (reading : ParsedLine) → length (accepted names reading) ≤ 1
+one_more names the_heading = omega arith
 one_more names (read sentence) = one_if names sentence (refusal names sentence)
 one_more names (faulty fault) = omega arith
 
@@ -120,7 +122,7 @@ module _ (o n : Option (List ℕ)) (batching : Batching) (text : List ℕ)
                 ∙ ap (λ (w : List ℕ). w ++ lines_text log (batching.number - length waiting) (finished batching.engine) waiting) was.text
                 ∙ ap (λ (k : ℕ). lines_text log 1 0 was.reported ++ lines_text log k (finished batching.engine) waiting) number
                 ∙ ap (λ (p : ℕ). lines_text log 1 0 was.reported ++ lines_text log (1 + length was.reported) p waiting) place
-                ∙ sym (parts log.statements log.names.tables 1 0 was.reported waiting),
+                ∙ sym (parts log.statements log.names 1 0 was.reported waiting),
           ),
         ),
       )

@@ -1,10 +1,14 @@
 -- The lines that were read before what is still to come, wherever after them the text ends.
 use Rattle.std.proofs.Common.{◌≡◌, ◌≢◌, ◌<◌, ℕ, List, [], ◌∷◌, ◌++◌, eqb, length, refl, ap, sym, ◌∙◌, subst, arith, append_assoc, inl, inr}
 use Rattle.std.proofs.lemmas.Bool.{cases_eq, cond-false, ne_eqb}
+use Rattle.std.specs.Prelude.{◌==◌, Bool, false}
 use Rattle.std.proofs.lemmas.List.{append-nil, length-append}
 use Rattle.line_io.specs.Lines.{first_line, lines_of, other_lines}
 use Rattle.line_io.proofs.LinesLaws.{lines_first}
-use Rattle.report.specs.Report.{AreParsedLines, IsParsedLine, ParsedLine}
+use Rattle.log_text.specs.declared.version.Version.{Version}
+use Rattle.sequencer.specs.Catalog.{Names, no_names}
+use Rattle.report.specs.Report.{AreParsedFrom, AreParsedLines, IsParsedLine, ParsedLine, names_after, version_with}
+use Rattle.report.proofs.ReportLemmas.{names_after-append, version-with}
 use Rattle.bohm_base.specs.Collecting.{AreReadBefore}
 use Rattle.batched_text.specs.Batching.{AreReadFirst}
 
@@ -54,12 +58,31 @@ first-cut (b ∷ bs) =
           )
     ]
 
-pub leads_more : (input ys zs : List ℕ) (earlier : List ParsedLine) (reading : ParsedLine) → 0 < length ys → zs ≡ other_lines ys → IsParsedLine (first_line ys) reading
+-- a line is read so after these: it may be the heading where there are none, and it is read in the version of the names that they leave
+abbrev pub IsReadAfter : List ParsedLine → List ℕ → ParsedLine → Type 0
+IsReadAfter earlier line reading = IsParsedLine (length earlier == 0) (names_after no_names earlier).version line reading
+
+-- the lines behind it are read in the version that it leaves
+later-from : (earlier : List ParsedLine) (reading : ParsedLine) (lines : List (List ℕ)) (later : List ParsedLine)
+    → AreParsedFrom (length (earlier ++ reading ∷ []) == 0) (names_after no_names (earlier ++ reading ∷ [])).version lines later
+    → AreParsedFrom false (version_with (names_after no_names earlier).version reading) lines later
+later-from earlier reading lines later rest =
+    let more : (length (earlier ++ reading ∷ []) == 0) ≡ false =
+    ne_eqb (length (earlier ++ reading ∷ [])) 0 (λ same. omega (arith, same, length-append earlier (reading ∷ []))) in
+    let version : (names_after no_names (earlier ++ reading ∷ [])).version ≡ version_with (names_after no_names earlier).version reading =
+    ap (λ (n : Names). n.version) (names_after-append no_names earlier (reading ∷ [])) ∙ version-with (names_after no_names earlier) reading in
+    subst (λ (v : Version). AreParsedFrom false v lines later) version
+    (subst (λ (b : Bool). AreParsedFrom b (names_after no_names (earlier ++ reading ∷ [])).version lines later) more rest)
+
+pub leads_more : (input ys zs : List ℕ) (earlier : List ParsedLine) (reading : ParsedLine) → 0 < length ys → zs ≡ other_lines ys → IsReadAfter earlier (first_line ys) reading
     → AreReadBefore input ys earlier → AreReadBefore input zs (earlier ++ reading ∷ [])
 leads_more input [] zs earlier reading some others reads leads = absurd (omega arith)
 leads_more input (b ∷ bs) zs earlier reading some others reads leads = λ later rest.
-    let first : AreParsedLines (lines_of (b ∷ bs)) (reading ∷ later) =
-    subst (λ (ls : List (List ℕ)). AreParsedLines ls (reading ∷ later)) (sym (lines_first b bs)) (reads, subst (λ (l : List ℕ). AreParsedLines (lines_of l) later) others rest) in
+    let before : Version = (names_after no_names earlier).version in
+    let behind : AreParsedFrom false (version_with before reading) (lines_of (other_lines (b ∷ bs))) later =
+    subst (λ (l : List ℕ). AreParsedFrom false (version_with before reading) (lines_of l) later) others (later-from earlier reading (lines_of zs) later rest) in
+    let first : AreParsedFrom (length earlier == 0) before (lines_of (b ∷ bs)) (reading ∷ later) =
+    subst (λ (ls : List (List ℕ)). AreParsedFrom (length earlier == 0) before ls (reading ∷ later)) (sym (lines_first b bs)) (reads, behind) in
     subst (AreParsedLines (lines_of input)) (sym (append_assoc earlier (reading ∷ []) later)) (leads (reading ∷ later) first)
 
 -- at first no line is read
@@ -67,7 +90,7 @@ pub read_start : (input : List ℕ) → AreReadFirst input input []
 read_start input = record { taken = []; all = refl; reads = λ more end is later reads. reads }
 
 -- one more line
-pub read_step : (input ys zs : List ℕ) (earlier : List ParsedLine) (reading : ParsedLine) → 0 < length ys → zs ≡ other_lines ys → IsParsedLine (first_line ys) reading
+pub read_step : (input ys zs : List ℕ) (earlier : List ParsedLine) (reading : ParsedLine) → 0 < length ys → zs ≡ other_lines ys → IsReadAfter earlier (first_line ys) reading
     → AreReadFirst input ys earlier → AreReadFirst input zs (earlier ++ reading ∷ [])
 read_step input ys zs earlier reading some others reads so =
     let cut = first-cut ys in
@@ -83,7 +106,7 @@ read_step input ys zs earlier reading some others reads so =
           cut.1.whole ∙ ap (λ (w : List ℕ). line ++ w) ends ∙ sym (append_assoc line more end) in
           let step : AreReadBefore (so.taken ++ (line ++ more)) more (earlier ++ reading ∷ []) =
           leads_more (so.taken ++ (line ++ more)) (line ++ more) more earlier reading (omega (arith, cut.1.some some, length-append line more))
-          (sym (cut.1.others more end ends)) (subst (λ (l : List ℕ). IsParsedLine l reading) (sym (cut.1.first more end ends)) reads)
+          (sym (cut.1.others more end ends)) (subst (λ (l : List ℕ). IsReadAfter earlier l reading) (sym (cut.1.first more end ends)) reads)
           (so.reads (line ++ more) end before) in
           subst (λ (w : List ℕ). AreReadBefore w more (earlier ++ reading ∷ [])) (sym (append_assoc so.taken line more)) step;
     }

@@ -1,5 +1,7 @@
 pub mod Histories
+pub mod PlacesTold
 pub mod Reports
+pub mod LaterNames
 pub mod Ends
 pub mod Sofar
 pub mod Ended

@@ -6,17 +6,19 @@ use Rattle.std.proofs.lemmas.List.Elements.{All-weaker}
 use Rattle.model_base.specs.declared.outcome.Outcome.{Outcome}
 use Rattle.model_base.specs.declared.statement.Statement.{Statement}
 use Rattle.model_base.specs.Outcomes.{outcome, owners}
+use Rattle.sequencer.specs.Catalog.{Names}
+use Rattle.sequencer.specs.Foretelling.{Begins}
 use Rattle.sequencer.specs.Log.{Accepted}
 use Rattle.sequencer.specs.Whole.{IsAccepted, IsWhole}
-use Rattle.report.specs.Text.{IsNamed}
 use Rattle.report.specs.Report.{place_text, text_of}
+use Rattle.report.specs.Text.{records_listed}
 use Rattle.bohm_base.specs.Collecting.{line_outcome_text, places_of, report_text}
 use Rattle.bohm_base.specs.declared.collecting.LineOutcome.{LineOutcome}
 use Rattle.bohm_base.proofs.Named.{outcome-named}
 use Rattle.model_base.specs.Growing.{NeedsOwnTables, NeedsWithin}
 use Rattle.model_base.proofs.Growing.{get-front, outcome-stands}
 use Rattle.batched_text.specs.Places.{places_in}
-use Rattle.bohm_base.proofs.Reporting.{text-longer}
+use Rattle.bohm_base.proofs.Reporting.{granted-known, outcome-granted, text-longer}
 
 pub needs-own : (log : Accepted) → IsWhole log → NeedsOwnTables log.statements
 needs-own log whole =
@@ -24,52 +26,54 @@ needs-own log whole =
     subst (λ (n : ℕ). All (NeedsWithin n) log.statements) count
     (All-weaker (IsAccepted log.names) (NeedsWithin (length log.names.tables)) (λ statement taken. taken.needs) log.statements whole.taken)
 
-module _ (log : Accepted) (whole : IsWhole log) (more : List Statement) (extra : List (List ℕ)) where
-  text-same : (place : ℕ) (statement : Option Statement) (found : Option Outcome) → ((o : Outcome) → found ≡ Some o → IsNamed (length log.names.tables) o)
-      → text_of (log.names.tables ++ extra) place statement found ≡ text_of log.names.tables place statement found
-  text-same place (Some statement) (Some o) named = text-longer log.names.tables extra place statement.form o (named o refl)
-  text-same place (Some statement) None named = refl
-  text-same place None found named = refl
+module _ (log : Accepted) (whole : IsWhole log) (more : List Statement) (later : Names) (begins : Begins log.names later) (same : later.version ≡ log.names.version) where
+  abbrev all : List Statement
+  all = log.statements ++ more
 
-  pub place-same : (place : ℕ) → place < length log.statements → place_text (log.statements ++ more) (log.names.tables ++ extra) place ≡ place_text log.statements log.names.tables place
+  text-same : (place : ℕ) (statement : Option Statement) (found : Option Outcome) → outcome log.statements place ≡ found
+      → text_of all later place statement found ≡ text_of log.statements log.names place statement found
+  text-same place (Some statement) (Some o) is =
+      text-longer log.statements more log.names later begins same place statement.form o (outcome-named log place o whole is)
+      (granted-known log whole place (records_listed o) (outcome-granted log.statements place o is))
+  text-same place (Some statement) None is = refl
+  text-same place None found is = refl
+
+  pub place-same : (place : ℕ) → place < length log.statements → place_text all later place ≡ place_text log.statements log.names place
   place-same place less =
-      ap (λ (s : Option Statement). text_of (log.names.tables ++ extra) place s (outcome (log.statements ++ more) place)) (get-front log.statements more place less)
-      ∙ ap (text_of (log.names.tables ++ extra) place (slice_get log.statements place)) (outcome-stands log.statements more place (needs-own log whole) less)
-      ∙ text-same place (slice_get log.statements place) (outcome log.statements place) (λ o is. outcome-named log place o whole is)
+      ap (λ (s : Option Statement). text_of all later place s (outcome all place)) (get-front log.statements more place less)
+      ∙ ap (text_of all later place (slice_get log.statements place)) (outcome-stands log.statements more place (needs-own log whole) less)
+      ∙ text-same place (slice_get log.statements place) (outcome log.statements place) refl
 
   line-same : (number place : ℕ) (line : LineOutcome) → place + places_of line ≤ length log.statements
-      → line_outcome_text (log.statements ++ more) (log.names.tables ++ extra) number place line ≡ line_outcome_text log.statements log.names.tables number place line
+      → line_outcome_text all later number place line ≡ line_outcome_text log.statements log.names number place line
+  line-same number place LineOutcome.Heading less = refl
   line-same number place LineOutcome.Accepted less = place-same place (omega (arith, less))
   line-same number place (LineOutcome.Faulty fault) less = refl
   line-same number place (LineOutcome.Refused refused) less = refl
 
-  lines-same : (number place : ℕ) (lines : List LineOutcome) → place + places_in lines ≤ length log.statements
-      → report_text (log.statements ++ more) (log.names.tables ++ extra) number place lines ≡ report_text log.statements log.names.tables number place lines
-  lines-same number place [] less = refl
-  lines-same number place (line ∷ lines) less =
-      ap (λ t. t ++ report_text (log.statements ++ more) (log.names.tables ++ extra) (number + 1) (place + places_of line) lines) (line-same number place line (omega (arith, less)))
-      ∙ ap (λ t. line_outcome_text log.statements log.names.tables number place line ++ t) (lines-same (number + 1) (place + places_of line) lines (omega (arith, less)))
+  pub longer : (number place : ℕ) (lines : List LineOutcome) → place + places_in lines ≤ length log.statements
+      → report_text all later number place lines ≡ report_text log.statements log.names number place lines
+  longer number place [] less = refl
+  longer number place (line ∷ lines) less =
+      ap (λ t. t ++ report_text all later (number + 1) (place + places_of line) lines) (line-same number place line (omega (arith, less)))
+      ∙ ap (λ t. line_outcome_text log.statements log.names number place line ++ t) (longer (number + 1) (place + places_of line) lines (omega (arith, less)))
 
-pub longer : (log : Accepted) (more : List Statement) (extra : List (List ℕ)) (number place : ℕ) (lines : List LineOutcome) → IsWhole log → place + places_in lines ≤ length log.statements
-    → report_text (log.statements ++ more) (log.names.tables ++ extra) number place lines ≡ report_text log.statements log.names.tables number place lines
-longer log more extra number place lines whole less = lines-same log whole more extra number place lines less
-
-pub parts : (log : List Statement) (tables : List (List ℕ)) (number place : ℕ) (lines later : List LineOutcome)
-    → report_text log tables number place (lines ++ later)
-    ≡ report_text log tables number place lines ++ report_text log tables (number + length lines) (place + places_in lines) later
-parts log tables number place [] later =
+pub parts : (log : List Statement) (names : Names) (number place : ℕ) (lines later : List LineOutcome)
+    → report_text log names number place (lines ++ later)
+    ≡ report_text log names number place lines ++ report_text log names (number + length lines) (place + places_in lines) later
+parts log names number place [] later =
     let a : number ≡ number + 0 = omega arith in
     let b : place ≡ place + 0 = omega arith in
-    ap (λ (n : ℕ). report_text log tables n place later) a ∙ ap (λ (p : ℕ). report_text log tables (number + 0) p later) b
-parts log tables number place (line ∷ lines) later =
+    ap (λ (n : ℕ). report_text log names n place later) a ∙ ap (λ (p : ℕ). report_text log names (number + 0) p later) b
+parts log names number place (line ∷ lines) later =
     let a : number + 1 + length lines ≡ number + suc (length lines) = omega arith in
     let b : place + places_of line + places_in lines ≡ place + (places_of line + places_in lines) = omega arith in
-    let first = line_outcome_text log tables number place line in
+    let first = line_outcome_text log names number place line in
     ap (λ t. first ++ t)
-    (parts log tables (number + 1) (place + places_of line) lines later
-    ∙ ap (λ (n : ℕ). report_text log tables (number + 1) (place + places_of line) lines ++ report_text log tables n (place + places_of line + places_in lines) later) a
-    ∙ ap (λ (p : ℕ). report_text log tables (number + 1) (place + places_of line) lines ++ report_text log tables (number + suc (length lines)) p later) b)
-    ∙ sym (append_assoc first (report_text log tables (number + 1) (place + places_of line) lines) _)
+    (parts log names (number + 1) (place + places_of line) lines later
+    ∙ ap (λ (n : ℕ). report_text log names (number + 1) (place + places_of line) lines ++ report_text log names n (place + places_of line + places_in lines) later) a
+    ∙ ap (λ (p : ℕ). report_text log names (number + 1) (place + places_of line) lines ++ report_text log names (number + suc (length lines)) p later) b)
+    ∙ sym (append_assoc first (report_text log names (number + 1) (place + places_of line) lines) _)
 
 -- what is looked up in the statements of a log is there
 pub looked : (statements all : List Statement) (place : ℕ) (statement : Statement) → statements ≡ all → place < length all

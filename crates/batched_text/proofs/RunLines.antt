@@ -1,8 +1,12 @@
 -- Runs of lines, one after the other.
-use Rattle.std.proofs.Common.{◌≡◌, ◌≤◌, ◌+◌, ◌-◌, ℕ, List, length, sym, subst, arith}
-use Rattle.std.specs.Prelude.{Err, IsErrAnd, Ok, Result, drop}
+use Rattle.std.proofs.Common.{◌≡◌, ◌<◌, ◌≤◌, ◌+◌, ◌++◌, ℕ, List, [], length, refl, ap, sym, ◌∙◌, subst, arith}
+use Rattle.std.specs.Prelude.{◌==◌, Bool, Err, IsErrAnd, Ok, Result, drop, false}
+use Rattle.std.proofs.lemmas.Bool.{ne_eqb}
 use Rattle.std.specs.Io.KnownBytes.{prepend_known}
-use Rattle.log_text.proofs.Total.{total}
+use Rattle.log_text.proofs.Total.{total_in}
+use Rattle.line_io.specs.Lines.{first_line}
+use Rattle.report.specs.Report.{IsParsedLine}
+use Rattle.report.proofs.ReportLemmas.{version-with}
 use Rattle.sequencer.specs.Foretelling.{Begins}
 use Rattle.sequencer.specs.Log.{Accepted}
 use Rattle.sequencer.proofs.Beginnings.{begins_further, begins_same}
@@ -18,6 +22,7 @@ use Rattle.batched_text.specs.declared.buffered.Buffered.{Buffered}
 use Rattle.batched_text.specs.declared.history.Plan.{Plan}
 use Rattle.batched_text.proofs.Cutting.{dealt}
 use Rattle.batched_text.proofs.ForetoldLines.{begins_dealt}
+use Rattle.batched_text.proofs.LaterNames.{version-stays}
 use Rattle.batched_text.proofs.Sofar.{batched_early, batched_step, begun_batched}
 
 -- what an open batch holds lies in the log
@@ -28,11 +33,11 @@ within_open plan batching room = omega (arith, room.filling.counted)
 -- what is reported or waits makes a beginning of the report
 taken_begun : (bytes : List ℕ) (from to : ℕ) (old new : Batching) → TakesFrom bytes from to old new → BeginsFrom bytes from old new
 taken_begun bytes from to old new taken = λ behind input out held so.
-    begun_batched total input (prepend_known (drop to bytes) behind) out held _ _ _ _ _ (taken behind input out held so)
+    begun_batched total_in input (prepend_known (drop to bytes) behind) out held _ _ _ _ _ (taken behind input out held so)
 
 pending_begun : (bytes : List ℕ) (from : ℕ) (old new : Batching) → new.pending.items ≡ old.pending.items → BeginsFrom bytes from old new
 pending_begun bytes from old new same = λ behind input out held so.
-    subst (HasBegunReport input out held) (sym same) (begun_batched total input (prepend_known (drop from bytes) behind) out held _ _ _ _ _ so)
+    subst (HasBegunReport input out held) (sym same) (begun_batched total_in input (prepend_known (drop from bytes) behind) out held _ _ _ _ _ so)
 
 module _ (plan : Plan) (buffered : Buffered) where
   -- no line
@@ -44,12 +49,16 @@ module _ (plan : Plan) (buffered : Buffered) where
     taken = λ behind input out held so. so;
     begun = taken_begun buffered.bytes.now from from batching batching (λ behind input out held so. so);
     begins = begins_same (log_names batching);
+    version = refl;
     err = tt;
   }
 
-  pub ready_start : (batching : Batching) → IsBatchReady plan batching (length buffered.bytes.now) buffered.given → IsReadyAt plan batching buffered 0
-  ready_start batching ready =
-      record { room = ready.room; bounded = λ left. ready.bounded (omega (arith, left)); numbered = omega (arith, ready.numbered) }
+  pub ready_start : (batching : Batching) → IsBatchReady plan batching (length buffered.bytes.now) buffered.given → 1 < batching.number
+      → IsReadyAt plan batching buffered 0
+  ready_start batching ready begun = record {
+    ready = record { room = ready.room; bounded = λ left. ready.bounded (omega (arith, left)); numbered = omega (arith, ready.numbered) };
+    begun = begun;
+  }
 
   -- memory was refused or no thread started, and what was pending is
   pub runs_fault : (from : ℕ) (old new : Batching) (result : Result ℕ EngineFault) → new.pending.items ≡ old.pending.items
@@ -61,8 +70,20 @@ module _ (plan : Plan) (buffered : Buffered) where
     taken = tt;
     begun = pending_begun buffered.bytes.now from old new same;
     begins = tt;
+    version = tt;
     err = is;
   }
+
+  -- a line after the first leaves the version
+  version-dealt : (from count : ℕ) (old mid new : Batching) → 1 < old.number → (taken : TakesAt buffered.bytes.now from count old mid)
+      → Deals taken.reading old new → (log_names new).version ≡ (log_names old).version
+  version-dealt from count old mid new begun taken deals =
+      let other : (old.number == 1) ≡ false = ne_eqb old.number 1 (λ same. omega (arith, same, begun)) in
+      let read : IsParsedLine false (log_names old).version (first_line (drop from buffered.bytes.now ++ [])) taken.reading =
+      subst (λ (b : Bool). IsParsedLine b (log_names old).version (first_line (drop from buffered.bytes.now ++ [])) taken.reading) other
+      (taken.reads (first_line (drop from buffered.bytes.now ++ [])) (taken.at.first [])) in
+      ap (λ (log : Accepted). log.names.version) deals.log ∙ version-with (log_names old) taken.reading
+      ∙ version-stays (log_names old).version (first_line (drop from buffered.bytes.now ++ [])) taken.reading read
 
   -- one line, which was taken, and then its batch was reported if that is full
   pub runs_line : (from count : ℕ) (old mid new : Batching) → IsReadyAt plan old buffered from → TakesAt buffered.bytes.now from count old mid
@@ -74,18 +95,22 @@ module _ (plan : Plan) (buffered : Buffered) where
       let takes : TakesFrom buffered.bytes.now from (from + count) old new =
       λ behind input out held so.
       batched_step input (prepend_known (drop from buffered.bytes.now) behind) (prepend_known (drop (from + count) buffered.bytes.now) behind) out held taken.line taken.reading old new so
-      (took_at buffered.bytes.now from count taken.line taken.at behind) taken.reads deals (within_open plan old ready.room)
+      (took_at buffered.bytes.now from count taken.line taken.at behind) taken.reads deals (within_open plan old ready.ready.room)
       (record { whole = room.filling.whole; within = within_open plan new room }) in
       record {
         within = taken.at.within;
         ready = record {
-          room = room;
-          bounded = λ left. ready.bounded (omega (arith, left));
-          numbered = omega (arith, taken.at.some, taken.at.within, deals.number, ready.numbered);
+          ready = record {
+            room = room;
+            bounded = λ left. ready.ready.bounded (omega (arith, left));
+            numbered = omega (arith, taken.at.some, taken.at.within, deals.number, ready.ready.numbered);
+          };
+          begun = omega (arith, ready.begun, deals.number);
         };
         taken = takes;
         begun = taken_begun buffered.bytes.now from (from + count) old new takes;
         begins = begins_dealt taken.reading old new deals;
+        version = version-dealt from count old mid new ready.begun taken deals;
         err = tt;
       }
 
@@ -98,6 +123,7 @@ module _ (plan : Plan) (buffered : Buffered) where
     taken = λ behind input out held so. second.taken behind input out held (first.taken behind input out held so);
     begun = λ behind input out held so. second.begun behind input out held (first.taken behind input out held so);
     begins = begins_further (log_names old) (log_names mid) (log_names new) first.begins second.begins;
+    version = second.version ∙ first.version;
     err = tt;
   }
   runs_then from at old mid new (Err fault) first second = record {
@@ -106,6 +132,7 @@ module _ (plan : Plan) (buffered : Buffered) where
     taken = tt;
     begun = λ behind input out held so. second.begun behind input out held (first.taken behind input out held so);
     begins = tt;
+    version = tt;
     err = second.err;
   }
 
@@ -128,10 +155,14 @@ module _ (plan : Plan) (buffered : Buffered) where
       (record { whole = room.filling.whole; within = within_open plan new room }) in
       record {
         within = runs.within;
-        ready = record { room = room; bounded = runs.ready.bounded; numbered = omega (arith, runs.ready.numbered, number) };
+        ready = record {
+          ready = record { room = room; bounded = runs.ready.ready.bounded; numbered = omega (arith, runs.ready.ready.numbered, number) };
+          begun = omega (arith, runs.ready.begun, number);
+        };
         taken = taken;
         begun = taken_begun buffered.bytes.now from to old new taken;
         begins = subst (λ (l : Accepted). Begins (log_names old) l.names) (sym log) runs.begins;
+        version = ap (λ (l : Accepted). l.names.version) log ∙ runs.version;
         err = tt;
       }
 
@@ -144,8 +175,9 @@ module _ (plan : Plan) (buffered : Buffered) where
     taken = tt;
     begun = λ behind input out held so.
         subst (HasBegunReport input out held) (sym same)
-        (begun_batched total input (prepend_known (drop to buffered.bytes.now) behind) out held _ _ _ _ _ (runs.taken behind input out held so));
+        (begun_batched total_in input (prepend_known (drop to buffered.bytes.now) behind) out held _ _ _ _ _ (runs.taken behind input out held so));
     begins = tt;
+    version = tt;
     err = is;
   }
 

@@ -1,5 +1,7 @@
 -- The report so far of a text that is run in batches.
-use Rattle.std.proofs.Common.{◌≡◌, ◌≤◌, ◌+◌, ◌++◌, ℕ, List, [], ◌∷◌, Option, Some, None, length, refl, ap, sym, ◌∙◌, subst, arith, append_assoc}
+use Rattle.std.proofs.Common.{◌≡◌, ◌⊎◌, ◌≤◌, ◌+◌, ◌++◌, ℕ, zero, suc, List, [], ◌∷◌, Option, Some, None, length, refl, ap, sym, ◌∙◌, subst, arith, append_assoc, inl, inr}
+use Rattle.std.specs.Prelude.{◌==◌, Bool}
+use Rattle.std.proofs.lemmas.Bool.{ne_eqb}
 use Rattle.std.proofs.lemmas.List.{append-nil, length-append}
 use Rattle.model_base.specs.declared.statement.Statement.{Statement}
 use Rattle.line_io.specs.Known.{HadSome, TookLine}
@@ -7,19 +9,19 @@ use Rattle.line_io.specs.Lines.{first_line, lines_of}
 use Rattle.sequencer.specs.Catalog.{Names, no_names}
 use Rattle.sequencer.specs.Log.{Accepted}
 use Rattle.sequencer.specs.Whole.{IsWhole}
-use Rattle.report.specs.Report.{IsReport, ParsedLine, accepted, log_of, names_after, names_with}
+use Rattle.report.specs.Report.{IsParsedLine, IsReport, ParsedLine, accepted, log_of, names_after, names_with}
 use Rattle.report.proofs.ReportLemmas.{log_of-append, names_after-append}
-use Rattle.report.proofs.Readings.{IsTotal, readings}
+use Rattle.report.proofs.Readings.{IsTotal, readings_from}
 use Rattle.bohm_base.specs.declared.collecting.LineOutcome.{LineOutcome}
 use Rattle.bohm_base.specs.Collecting.{IsLogOf, ReadsAs, line_outcomes, line_outcome, log_text, report_text, with_reading}
 use Rattle.bohm_base.proofs.Logs.{log_step, report_is}
-use Rattle.bohm_base.proofs.WholeLogs.{tables_after}
 use Rattle.bohm_base.specs.Pending.{HasBegunReport}
 use Rattle.engine.specs.Engine.{finished}
 use Rattle.batched_text.specs.Batching.{Batched, BatchedUpTo, Deals, ReportsLines, lines_text}
 use Rattle.batched_text.specs.declared.batching.Batching.{Batching}
 use Rattle.batched_text.specs.Places.{places_in}
-use Rattle.batched_text.proofs.Ends.{read_before, read_step}
+use Rattle.batched_text.proofs.Ends.{IsReadAfter, read_before, read_step}
+use Rattle.batched_text.proofs.LaterNames.{begins_after, stays_or_none}
 use Rattle.batched_text.proofs.Reports.{longer, parts}
 
 -- the log is one that was taken, and what is finished lies in it
@@ -31,21 +33,47 @@ pub places-append : (xs ys : List LineOutcome) → places_in (xs ++ ys) ≡ plac
 places-append [] ys = omega arith
 places-append (x ∷ xs) ys = omega (arith, places-append xs ys)
 
+outcomes-count : (names : Names) (readings : List ParsedLine) → length (line_outcomes names readings) ≡ length readings
+outcomes-count names [] = refl
+outcomes-count names (reading ∷ readings) = ap suc (outcomes-count (names_with names reading) readings)
+
+-- the number of the next line is 1 where there are none before it
+first-by : (next count : ℕ) → next ≡ count + 1 → (next == 1) ≡ (count == 0)
+first-by next zero is = ap (λ (n : ℕ). n == 1) is
+first-by next (suc count) is =
+    ne_eqb next 1 (λ same. omega (arith, same, is)) ∙ sym (ne_eqb (suc count) 0 (λ same. omega (arith, same)))
+
 line_outcome-append : (names : Names) (xs ys : List ParsedLine) → line_outcomes names (xs ++ ys) ≡ line_outcomes names xs ++ line_outcomes (names_after names xs) ys
 line_outcome-append names [] ys = refl
 line_outcome-append names (x ∷ xs) ys = ap (λ (lines : List LineOutcome). line_outcome names x ∷ lines) (line_outcome-append (names_with names x) xs ys)
 
--- the lines that were reported are given the same by a longer log
+-- more lines leave the version, or no line was reported yet
+abbrev StaysOrNone : Accepted → List ParsedLine → List LineOutcome → Type 0
+StaysOrNone log more reported = ((names_after log.names more).version ≡ log.names.version) ⊎ (reported ≡ [])
+
+-- then the lines that were reported are given the same by a longer log
 told-longer : (log : Accepted) (more : List ParsedLine) (reported : List LineOutcome) → IsWhole log → places_in reported ≤ length log.statements
-    → report_text (log.statements ++ log_of log.names more) (names_after log.names more).tables 1 0 reported ≡ lines_text log 1 0 reported
-told-longer log more reported whole less =
-    let tables = tables_after log.names more in
-    ap (λ (ts : List (List ℕ)). report_text (log.statements ++ log_of log.names more) ts 1 0 reported) tables.1
-    ∙ longer log (log_of log.names more) tables.0 1 0 reported whole (omega (arith, less))
+    → StaysOrNone log more reported
+    → report_text (log.statements ++ log_of log.names more) (names_after log.names more) 1 0 reported ≡ lines_text log 1 0 reported
+told-longer log more reported whole less (inl same) =
+    longer log whole (log_of log.names more) (names_after log.names more) (begins_after log.names more) same 1 0 reported (omega (arith, less))
+told-longer log more reported whole less (inr none) =
+    ap (report_text (log.statements ++ log_of log.names more) (names_after log.names more) 1 0) none ∙ ap (lines_text log 1 0) (sym none)
+
+-- a line is the first where no line was read, and it is read in the version of the log
+read-after : (earlier : List ParsedLine) (log : Accepted) (reported waiting : List LineOutcome) (next : ℕ) (line : List ℕ) (reading : ParsedLine)
+    → IsLogOf earlier log (reported ++ waiting) → 1 + length reported + length waiting ≡ next
+    → IsParsedLine (next == 1) log.names.version line reading → IsReadAfter earlier line reading
+read-after earlier log reported waiting next line reading so number reads =
+    let count : length reported + length waiting ≡ length earlier =
+    sym (length-append reported waiting) ∙ ap length so.each ∙ outcomes-count no_names earlier in
+    let first : (next == 1) ≡ (length earlier == 0) = first-by next (length earlier) (omega (arith, number, count)) in
+    subst (λ (n : Names). IsParsedLine (length earlier == 0) n.version line reading) so.names
+    (subst (λ (b : Bool). IsParsedLine b log.names.version line reading) first reads)
 
 -- the whole report begins with that of the reported lines
 module _ (log : Accepted) (earlier later : List ParsedLine) (reported waiting : List LineOutcome) (whole : IsWhole log) (so : IsLogOf earlier log (reported ++ waiting))
-    (less : places_in reported ≤ length log.statements) where
+    (less : places_in reported ≤ length log.statements) (stays : StaysOrNone log later reported) where
   abbrev after : Accepted
   after = record { names = names_after no_names (earlier ++ later); statements = log_of no_names (earlier ++ later) }
 
@@ -68,16 +96,16 @@ module _ (log : Accepted) (earlier later : List ParsedLine) (reported waiting : 
   names-are = names_after-append no_names earlier later ∙ ap (λ (n : Names). names_after n later) (sym so.names)
 
   abbrev behind : List ℕ
-  behind = report_text after.statements after.names.tables (1 + length reported) (0 + places_in reported) rest
+  behind = report_text after.statements after.names (1 + length reported) (0 + places_in reported) rest
 
   pub report-begins : log_text after (line_outcomes no_names (earlier ++ later)) ≡ lines_text log 1 0 reported ++ behind
   report-begins =
-      ap (λ (ls : List LineOutcome). report_text after.statements after.names.tables 1 0 ls) all-lines
-      ∙ parts after.statements after.names.tables 1 0 reported rest
+      ap (λ (ls : List LineOutcome). report_text after.statements after.names 1 0 ls) all-lines
+      ∙ parts after.statements after.names 1 0 reported rest
       ∙ ap (λ t. t ++ behind)
-      (ap (λ (xs : List Statement). report_text xs after.names.tables 1 0 reported) statements-are
-      ∙ ap (λ (n : Names). report_text (log.statements ++ log_of log.names later) n.tables 1 0 reported) names-are
-      ∙ told-longer log later reported whole less)
+      (ap (λ (xs : List Statement). report_text xs after.names 1 0 reported) statements-are
+      ∙ ap (λ (n : Names). report_text (log.statements ++ log_of log.names later) n 1 0 reported) names-are
+      ∙ told-longer log later reported whole less stays)
 
 -- what was written, and then what is pending, is a beginning of the report
 pub begun_batched : IsTotal → (i j o n : Option (List ℕ)) (pending : List ℕ) (log : Accepted) (done : ℕ) (waiting : List LineOutcome) (next : ℕ)
@@ -86,19 +114,21 @@ begun_batched total None j o n pending log done waiting next so = tt
 begun_batched total (Some xs) None o n pending log done waiting next so = absurd so
 begun_batched total (Some xs) (Some ys) o n pending log done waiting next so =
     let is = so.1.1 in
-    let later = readings total (lines_of ys) in
+    let later = readings_from total (length is.earlier == 0) (names_after no_names is.earlier).version (lines_of ys) in
     let all : List ParsedLine = is.earlier ++ later.0 in
     let few : places_in is.reported ≤ length log.statements = omega (arith, is.places, is.within) in
     let after : Accepted = record { names = names_after no_names all; statements = log_of no_names all } in
     let text : List ℕ = log_text after (line_outcomes no_names all) in
     let report : IsReport xs text = report_is xs after (line_outcomes no_names all) (all, (read_before xs ys is.earlier is.leads later.0 later.1, record { names = refl; statements = refl; each = refl })) in
-    let rest : List ℕ = report_text after.statements after.names.tables (1 + length is.reported) (0 + places_in is.reported) (waiting ++ line_outcomes (names_after no_names is.earlier) later.0) in
-    let begins : text ≡ lines_text log 1 0 is.reported ++ rest = report-begins log is.earlier later.0 is.reported waiting is.whole is.made few in
+    let rest : List ℕ = report_text after.statements after.names (1 + length is.reported) (0 + places_in is.reported) (waiting ++ line_outcomes (names_after no_names is.earlier) later.0) in
+    let begins : text ≡ lines_text log 1 0 is.reported ++ rest = report-begins log is.earlier later.0 is.reported waiting is.whole is.made few
+    (stays_or_none is.earlier later.0 log is.reported waiting (lines_of ys) is.made later.1) in
     (text, (report, (rest, (so.0, so.1.0, sym (append_assoc so.0 pending rest) ∙ ap (λ (w : List ℕ). w ++ rest) is.text ∙ sym begins))))
 
 -- a line was taken, and waits
 pub batched_taken : (i j k o n : Option (List ℕ)) (pending line : List ℕ) (reading : ParsedLine) (log new : Accepted) (done : ℕ) (waiting : List LineOutcome) (next : ℕ)
-    → Batched i j o n pending log done waiting next → TookLine j k [] line × HadSome j → ReadsAs line reading → new ≡ with_reading log reading → IsWhole new
+    → Batched i j o n pending log done waiting next → TookLine j k [] line × HadSome j → ReadsAs (next == 1) log.names.version line reading
+    → new ≡ with_reading log reading → IsWhole new
     → done ≤ length new.statements → Batched i k o n pending new done (waiting ++ line_outcome log.names reading ∷ []) (next + 1)
 batched_taken None j k o n pending line reading log new done waiting next so took reads is whole within = tt
 batched_taken (Some xs) None k o n pending line reading log new done waiting next so took reads is whole within = absurd so
@@ -110,16 +140,19 @@ batched_taken (Some xs) (Some ys) (Some zs) o n pending line reading log new don
     let made : IsLogOf (was.earlier ++ reading ∷ []) new (lines ++ one ∷ []) =
     log_step was.earlier reading log new lines (lines ++ one ∷ []) one was.made refl is refl in
     let few : places_in was.reported ≤ length log.statements = omega (arith, was.places, was.within) in
+    let after : IsReadAfter was.earlier (first_line ys) reading =
+    read-after was.earlier log was.reported waiting next (first_line ys) reading was.made was.number (reads (first_line ys) took.0.0) in
     let stays : lines_text new 1 0 was.reported ≡ lines_text log 1 0 was.reported =
     ap (λ (l : Accepted). lines_text l 1 0 was.reported) is
-    ∙ ap (λ (ss : List Statement). report_text (log.statements ++ ss) (names_with log.names reading).tables 1 0 was.reported) (sym (append-nil (accepted log.names reading)))
-    ∙ told-longer log (reading ∷ []) was.reported was.whole few in (
+    ∙ ap (λ (ss : List Statement). report_text (log.statements ++ ss) (names_with log.names reading) 1 0 was.reported) (sym (append-nil (accepted log.names reading)))
+    ∙ told-longer log (reading ∷ []) was.reported was.whole few
+    (stays_or_none was.earlier (reading ∷ []) log was.reported waiting (first_line ys ∷ []) was.made (after, tt)) in (
       so.0,
       (
         so.1.0,
         record {
           earlier = was.earlier ++ reading ∷ [];
-          leads = read_step xs ys zs was.earlier reading took.1 took.0.1 (reads (first_line ys) took.0.0) was.leads;
+          leads = read_step xs ys zs was.earlier reading took.1 took.0.1 after was.leads;
           reported = was.reported;
           made = subst (λ (ls : List LineOutcome). IsLogOf (was.earlier ++ reading ∷ []) new ls) (append_assoc was.reported waiting (one ∷ [])) made;
           number = omega (arith, was.number, length-append waiting (one ∷ []));
@@ -149,7 +182,7 @@ batched_reported (Some xs) (Some ys) o n log done_old done_new lines waiting nex
     ∙ ap (λ (w : List ℕ). w ++ lines_text log put.first done_old put.out) was.text
     ∙ ap (λ (m : ℕ). lines_text log 1 0 was.reported ++ lines_text log m done_old put.out) here
     ∙ ap (λ (p : ℕ). lines_text log 1 0 was.reported ++ lines_text log (1 + length was.reported) p put.out) place
-    ∙ sym (parts log.statements log.names.tables 1 0 was.reported put.out) in (
+    ∙ sym (parts log.statements log.names 1 0 was.reported put.out) in (
       so.0,
       (
         so.1.0,
@@ -169,7 +202,8 @@ batched_reported (Some xs) (Some ys) o n log done_old done_new lines waiting nex
 
 -- one more line was dealt with
 pub batched_step : (i j k o n : Option (List ℕ)) (line : List ℕ) (reading : ParsedLine) (old new : Batching)
-    → BatchedUpTo i j o n old → TookLine j k [] line × HadSome j → ReadsAs line reading → Deals reading old new → finished old.engine ≤ length old.engine.log.statements
+    → BatchedUpTo i j o n old → TookLine j k [] line × HadSome j → ReadsAs (old.number == 1) old.engine.log.names.version line reading
+    → Deals reading old new → finished old.engine ≤ length old.engine.log.statements
     → IsWithin new → BatchedUpTo i k o n new
 batched_step i j k o n line reading old new so took reads deals before within =
     let log : Accepted = old.engine.log in

@@ -19,7 +19,7 @@ use Rattle.batched_text.specs.declared.history.Plan.{Plan}
 
 -- the report's lines for some lines from this number on, the first of which with a place has this one
 abbrev pub lines_text : Accepted → ℕ → ℕ → List LineOutcome → List ℕ
-lines_text log number place lines = report_text log.statements log.names.tables number place lines
+lines_text log number place lines = report_text log.statements log.names number place lines
 
 -- the waiting lines have the places that aren't finished
 abbrev pub IsCounted : Run → List LineOutcome → Type 0
@@ -144,6 +144,7 @@ BatchedTo input out now = BatchedUpTo input now.rest out now.out now.batching
 -- one more line was taken, and further ones perhaps
 pub record TakesBatchedLine (plan : Plan) (old new : BatchedStanding) : Type 0 where
   pub ready : IsBatchReady plan new.batching new.ahead new.given
+  pub begun : 1 < new.batching.number
   pub forward : old.given + new.ahead < new.given + old.ahead
   pub most : new.given ≤ MOST_GIVEN_BYTES + BUFFER_BYTES
   pub batched : (input out : Option (List ℕ)) → BatchedTo input out old → BatchedTo input out new

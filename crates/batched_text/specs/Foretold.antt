@@ -1,5 +1,5 @@
 -- Lines of the buffered bytes that were read before their turn, and what dealing with them leads to.
-use Rattle.std.specs.Prelude.{◌≡◌, ◌-◌, ◌≤◌, All, IfErr, IfOk, List, OnOk, Option, Result, drop, length, ℕ}
+use Rattle.std.specs.Prelude.{◌==◌, ◌≡◌, ◌-◌, ◌<◌, ◌≤◌, All, IfErr, IfOk, List, OnOk, Option, Result, drop, length, ℕ}
 use Rattle.std.specs.Io.KnownBytes.{prepend_known}
 use Rattle.sequencer.specs.Catalog.{Names}
 use Rattle.sequencer.specs.Foretelling.{Begins}
@@ -19,16 +19,18 @@ use Rattle.batched_text.specs.declared.history.Plan.{Plan}
 abbrev pub log_names : Batching → Names
 log_names batching = batching.engine.log.names
 
--- the line was read before its turn by names with which those now begin
+-- the line was read before its turn by names with which those now begin, in the version of the log
 pub record WasReadAhead (now : Names) (bytes : List ℕ) (line : Ahead) : Type 0 where
   pub names : Names
   pub begins : Begins names now
+  pub version : names.version ≡ now.version
   pub ahead : IsAhead names bytes line
 
 -- so were these lines, all by the same names
 pub record WereReadAhead (now : Names) (bytes : List ℕ) (lines : List Ahead) : Type 0 where
   pub names : Names
   pub begins : Begins names now
+  pub version : names.version ≡ now.version
   pub ahead : All (IsAhead names bytes) lines
 
 -- the line that begins at an index of the bytes was taken, and takes this many of them
@@ -36,7 +38,7 @@ pub record TakesAt (bytes : List ℕ) (from count : ℕ) (old new : Batching) : 
   pub line : List ℕ
   pub at : IsLineAt bytes from count line
   pub reading : ParsedLine
-  pub reads : ReadsAs line reading
+  pub reads : ReadsAs (old.number == 1) (log_names old).version line reading
   pub takes : Takes reading old new
 
 -- with what was reported or waits up to one index of the buffered bytes, the lines up to another are reported or wait
@@ -53,12 +55,14 @@ BeginsFrom bytes from old new =
     → BatchedUpTo input (prepend_known (drop from bytes) behind) out held old
     → HasBegunReport input out held new.pending.items
 
--- a further line can be dealt with where the lines up to an index of the buffered bytes are reported or wait
-abbrev pub IsReadyAt : Plan → Batching → Buffered → ℕ → Type 0
-IsReadyAt plan batching buffered from = IsBatchReady plan batching (length buffered.bytes.now - from) buffered.given
+-- a further line can be dealt with where the lines up to an index of the buffered bytes are reported or wait, and the first line of all
+-- is among them
+pub record IsReadyAt (plan : Plan) (batching : Batching) (buffered : Buffered) (from : ℕ) : Type 0 where
+  pub ready : IsBatchReady plan batching (length buffered.bytes.now - from) buffered.given
+  pub begun : 1 < batching.number
 
 -- what a run of lines from an index of the bytes on resulted in, whose answer is the index before which all is dealt with: further lines
--- can be dealt with, and the names begin as they did; and in any case a beginning of the report is written
+-- can be dealt with, the names begin as they did, and the version is the same; and in any case a beginning of the report is written
 pub record Runs (plan : Plan) (buffered : Buffered) (from : ℕ) (old new : Batching)
     (result : Result ℕ EngineFault) : Type 0 where
   pub within : IfOk result (λ to. to ≤ length buffered.bytes.now)
@@ -66,4 +70,5 @@ pub record Runs (plan : Plan) (buffered : Buffered) (from : ℕ) (old new : Batc
   pub taken : IfOk result (λ to. TakesFrom buffered.bytes.now from to old new)
   pub begun : BeginsFrom buffered.bytes.now from old new
   pub begins : OnOk result (Begins (log_names old) (log_names new))
+  pub version : OnOk result ((log_names new).version ≡ (log_names old).version)
   pub err : IfErr result (IsOfBatch plan.settings.workers)

@@ -1,6 +1,6 @@
 -- The log of a text as far as a place: of as few of its first lines as make a log with the place, or of all of them. That an
 -- explanation reads no further is this project's own.
-use Rattle.std.specs.Prelude.{◌≡◌, ◌<◌, ◌++◌, ◌∷◌, ◌⊎◌, [], ⊤, ℕ, List, None, Option, Some, length}
+use Rattle.std.specs.Prelude.{◌≡◌, ◌<◌, ◌==◌, ◌++◌, ◌∷◌, ◌⊎◌, [], ⊤, ℕ, Bool, List, None, Option, Some, length}
 use Rattle.std.specs.Io.KnownBytes.{IsAtEnd}
 use Rattle.model_base.specs.declared.statement.Statement.{Statement}
 use Rattle.line_io.specs.Lines.{lines_of}
@@ -35,21 +35,23 @@ abbrev pub IsLogUpTo : Option (List ℕ) → Option ℕ → Accepted → Type 0
 IsLogUpTo None limit log = ⊤
 IsLogUpTo (Some input) limit log = IsLogOfFront input limit log
 
--- the log is that of the lines of the input before what is still to come, the last of which was taken while the log hadn't the place
-pub record IsFrontTaken (input rest : List ℕ) (place : ℕ) (log : Accepted) : Type 0 where
+-- the log is that of the lines of the input before what is still to come, the last of which was taken while the log hadn't the place; and
+-- whether the next line is the first of all
+pub record IsFrontTaken (first : Bool) (input rest : List ℕ) (place : ℕ) (log : Accepted) : Type 0 where
   pub earlier : List ParsedLine
+  pub none : first ≡ (length earlier == 0)
   pub leads : AreReadBefore input rest earlier
   pub lines : List LineOutcome
   pub made : IsLogOf earlier log lines
   pub fewest : AreFewest (Some place) earlier
 
 -- so it is where the input is known
-abbrev pub HasTaken : Option (List ℕ) → Option (List ℕ) → ℕ → Accepted → Type 0
-HasTaken None rest place log = ⊤
-HasTaken (Some input) None place log = ⊥
-HasTaken (Some input) (Some rest) place log = IsFrontTaken input rest place log
+abbrev pub HasTaken : Bool → Option (List ℕ) → Option (List ℕ) → ℕ → Accepted → Type 0
+HasTaken first None rest place log = ⊤
+HasTaken first (Some input) None place log = ⊥
+HasTaken first (Some input) (Some rest) place log = IsFrontTaken first input rest place log
 
 -- and the log has the place, or nothing is still to come
 abbrev pub EndsTaking : Option (List ℕ) → ℕ → Accepted → Type 0
 EndsTaking input place log =
-    (rest : Option (List ℕ)) × (HasTaken input rest place log × ((place < length log.statements) ⊎ IsAtEnd rest))
+    (first : Bool) × (rest : Option (List ℕ)) × (HasTaken first input rest place log × ((place < length log.statements) ⊎ IsAtEnd rest))

@@ -157,6 +157,7 @@ pub(crate) fn report_batch<T: Threads + Wait + Sync>(
     let first = batching.number - batching.waiting.len() as u64;
     batching.text.clear();
     put_lines(
+        runner.alloc,
         &mut batching.text,
         &batching.engine,
         first,

@@ -79,6 +79,7 @@ fn take_ahead<'a>(
     raw: &mut LineBuffers<'a>,
 ) -> Result<Option<usize>, EngineFault>
     requires number { batching.old.number < 2 ^ 64 - 1 }
+    requires begun { 1 < batching.old.number }
     requires ahead { WasReadAhead (log_names batching.old) bytes.now ahead.old }
     ensures ok { IfOk result (λ found. MatchOption found (batching.new ≡ batching.old)
         (λ count. TakesAt bytes.now ahead.old.from count batching.old batching.new)) }

@@ -1,22 +1,23 @@
 //! What holds of the report of a log to which more is appended.
 
 ghost use Rattle.std.specs.Prelude.{◌≡◌, ◌≤◌, ◌+◌, ◌++◌, ℕ, List, length};
-ghost use Rattle.model_base.specs.Growing.{NeedsOwnTables};
 ghost use Rattle.model_base.specs.declared.statement.Statement.{Statement};
+ghost use Rattle.sequencer.specs.Catalog.{Names};
+ghost use Rattle.sequencer.specs.Foretelling.{Begins};
 ghost use Rattle.sequencer.specs.Log.{Accepted};
 ghost use Rattle.sequencer.specs.Whole.{IsWhole};
 ghost use Rattle.bohm_base.specs.Collecting.{report_text};
 ghost use Rattle.bohm_base.specs.declared.collecting.LineOutcome.{LineOutcome};
 ghost use Rattle.batched_text.specs.Places.{places_in};
 
-/// The report's lines for lines whose places a log has are the same when more statements, and more tables, come after it; and the lines of
-/// a report in two parts are those of the one and then those of the other.
+/// The report's lines for lines whose places a log has are the same when more statements and more names come after it, in the same version;
+/// and the lines of a report in two parts are those of the one and then those of the other.
 pub fn reports_stand()
-    ensures longer { (log : Accepted) (more : List Statement) (extra : List (List ℕ)) (number place : ℕ) (lines : List LineOutcome)
-        → IsWhole log → place + places_in lines ≤ length log.statements
-        → report_text (log.statements ++ more) (log.names.tables ++ extra) number place lines
-        ≡ report_text log.statements log.names.tables number place lines }
-    ensures parts { (log : List Statement) (tables : List (List ℕ)) (number place : ℕ) (lines later : List LineOutcome)
-        → report_text log tables number place (lines ++ later)
-        ≡ report_text log tables number place lines ++ report_text log tables (number + length lines) (place + places_in lines) later }
+    ensures longer { (log : Accepted) (more : List Statement) (later : Names) (number place : ℕ) (lines : List LineOutcome)
+        → IsWhole log → Begins log.names later → later.version ≡ log.names.version → place + places_in lines ≤ length log.statements
+        → report_text (log.statements ++ more) later number place lines
+        ≡ report_text log.statements log.names number place lines }
+    ensures parts { (log : List Statement) (names : Names) (number place : ℕ) (lines later : List LineOutcome)
+        → report_text log names number place (lines ++ later)
+        ≡ report_text log names number place lines ++ report_text log names (number + length lines) (place + places_in lines) later }
 {}

@@ -28,7 +28,7 @@ pub use laws::reports_stand;
 pub use lookahead::ReadingAhead;
 pub use quiet::{run_quietly, run_quietly_seeded};
 pub use reaching::{run_quietly_to, run_quietly_to_seeded};
-pub use reporting::{put_lines, put_place};
+pub use reporting::{named_grantees, put_lines, put_place};
 pub use running::{
     report_in_order, report_in_order_seeded, report_text, report_text_seeded, run_text,
     run_text_seeded,

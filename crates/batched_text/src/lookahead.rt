@@ -101,8 +101,8 @@ impl Lookahead {
     }
 }
 
-/// Deals with whole lines at the front of the bytes, a stretch of them, with lines read before their turn. It returns how many bytes
-/// those lines are.
+/// Deals with whole lines at the front of the bytes, a stretch of them, with lines read before their turn in the version of the log. It
+/// returns how many bytes those lines are.
 pub(crate) fn report_stretch<T: Threads + Wait + Sync>(
     runner: &Runner<T>,
     lookahead: &mut Lookahead,
@@ -114,6 +114,8 @@ pub(crate) fn report_stretch<T: Threads + Wait + Sync>(
     ensures runs { Runs runner.now.plan buffered.now 0 batching.old batching.new result }
     ensures names { OnOk result (Begins lookahead.new.names (log_names batching.new)) }
 {
+    let version = batching.engine.log().catalog().version();
+    lookahead.names.set_version(version);
     let to = lookahead.next_stretch(buffered.bytes.len());
     let extent = Extent {
         to,

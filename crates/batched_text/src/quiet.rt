@@ -9,10 +9,10 @@ ghost use Rattle.engine.specs.Engine.{finished};
 ghost use Rattle.batched_text.specs.Batching.{IsLogOfText};
 
 use crate::batching::trim_to;
-use crate::lines::take_read;
+use crate::lines::take_text;
 use engine::{Crew, Engine, RunFault};
 use line_io::{Counted, LineReader, ReadFault};
-use log_text::{LineBuffers, read_into};
+use log_text::LineBuffers;
 use model_base::HashSeed;
 use std::alloc::{AllocError, Global};
 use std::io::Read;
@@ -23,19 +23,18 @@ use workers::NoGate;
 /// How many places a batch has, but for the last one.
 pub(crate) const BATCH: u64 = 1024;
 
-/// Reads a line, and takes its statement into the log if it is one that is not refused.
-#[tactic(auto, using(crate::proofs::LineReadings::in_grammar))]
+/// Takes a line into the log, as `take_text`.
 pub(crate) fn take_quietly(
     alloc: Global,
     engine: &mut Engine,
     line: &[u8],
+    is_first: bool,
 ) -> Result<(), AllocError>
-    ensures { OnOk result ((reading : ParsedLine) × (ReadsAs line.now reading
+    ensures { OnOk result ((reading : ParsedLine) × (ReadsAs is_first engine.old.log.names.version line.now reading
         × (engine.new ≡ record engine.old { log = with_reading engine.old.log reading }))) }
 {
     let mut raw = LineBuffers::new(alloc);
-    let found = read_into(line, &mut raw);
-    match take_read(engine, found, &raw) {
+    match take_text(engine, line, is_first, &mut raw) {
         Ok(_line) => Ok(()),
         Err(_fault) => Err(AllocError),
     }
@@ -55,8 +54,10 @@ fn take_lines<R: Read>(
     ensures other { (result ≡ Err ReadFault.Read → ⊥) → reader.new.errors ≡ reader.old.errors }
 {
     let mut lines = LineReader::new(alloc)?;
+    let mut is_first = true;
     'lines: while lines.next_line(reader)? {
-        take_quietly(alloc, engine, lines.line())?;
+        take_quietly(alloc, engine, lines.line(), is_first)?;
+        is_first = false;
     }
     Ok(())
 }

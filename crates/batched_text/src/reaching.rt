@@ -1,6 +1,6 @@
 //! A log that is read and run up to a place, and of which no report is made.
 
-ghost use Rattle.std.specs.Prelude.{◌≡◌, ◌<◌, ◌≤◌, ◌+◌, ℕ, Err, IfOk, IfSome, List, MatchBool, Ok, OnOk, Option, length, true};
+ghost use Rattle.std.specs.Prelude.{◌≡◌, ◌<◌, ◌≤◌, ◌+◌, ℕ, [], Err, IfOk, IfSome, List, MatchBool, Ok, OnOk, Option, false, length, true};
 ghost use Rattle.std.specs.Io.KnownBytes.{prepend_known};
 ghost use Rattle.line_io.specs.Ahead.{ahead};
 ghost use Rattle.line_io.specs.Known.{raised};
@@ -18,7 +18,32 @@ use std::io::Read;
 use std::sync::Wait;
 use std::thread::Threads;
 
-/// Takes lines into the log until it has a place. False where the input ended before. None of them is run.
+/// Takes the first line of a log. False where the input has none, and then nothing is taken.
+fn take_first<R: Read>(
+    alloc: Global,
+    reader: &mut Counted<R>,
+    lines: &mut LineReader,
+    engine: &mut Engine,
+) -> Result<bool, ReadFault>
+    requires first { engine.old.log ≡ empty_log }
+    requires ahead { ahead lines.old ≡ [] }
+    ensures taken { IfOk result (λ more. (place : ℕ) → MatchBool more
+        (HasTaken false (R.remaining reader.old.inner) (prepend_known (ahead lines.new) (R.remaining reader.new.inner)) place engine.new.log)
+        (EndsTaking (R.remaining reader.old.inner) place engine.new.log)) }
+    ensures none { result ≡ Ok false → engine.new ≡ engine.old }
+    ensures kept { OnOk result (engine.new.dropped ≡ engine.old.dropped) }
+    ensures bound { 0 < length (ahead lines.new) → reader.new.given ≤ MOST_GIVEN_BYTES + BUFFER_BYTES }
+    ensures read { result ≡ Err ReadFault.Read → reader.new.errors ≡ raised reader.old.errors }
+    ensures other { (result ≡ Err ReadFault.Read → ⊥) → reader.new.errors ≡ reader.old.errors }
+{
+    if !lines.next_line(reader)? {
+        return Ok(false);
+    }
+    take_quietly(alloc, engine, lines.line(), true)?;
+    Ok(true)
+}
+
+/// Takes lines after the first into the log until it has a place. False where the input ended before. None of them is run.
 fn take_until<R: Read>(
     alloc: Global,
     reader: &mut Counted<R>,
@@ -28,10 +53,10 @@ fn take_until<R: Read>(
 ) -> Result<bool, ReadFault>
     requires { 0 < length (ahead lines.old) → reader.old.given ≤ MOST_GIVEN_BYTES + BUFFER_BYTES }
     ensures taken { IfOk result (λ more. (input : Option (List ℕ)) (end : ℕ) → place ≤ end
-        → HasTaken input (prepend_known (ahead lines.old) (R.remaining reader.old.inner)) end engine.old.log
+        → HasTaken false input (prepend_known (ahead lines.old) (R.remaining reader.old.inner)) end engine.old.log
         → MatchBool more
         ((place < length engine.new.log.statements)
-        × HasTaken input (prepend_known (ahead lines.new) (R.remaining reader.new.inner)) end engine.new.log)
+        × HasTaken false input (prepend_known (ahead lines.new) (R.remaining reader.new.inner)) end engine.new.log)
         (EndsTaking input end engine.new.log)) }
     ensures more { result ≡ Ok true → place < length engine.new.log.statements }
     ensures none { OnOk result (finished engine.new ≡ finished engine.old) }
@@ -44,12 +69,12 @@ fn take_until<R: Read>(
         if !lines.next_line(reader)? {
             return Ok(false);
         }
-        take_quietly(alloc, engine, lines.line())?;
+        take_quietly(alloc, engine, lines.line(), false)?;
     }
     Ok(true)
 }
 
-/// Takes lines until the log has a place, but no more than a batch of them, and runs the places that wait. False once the log has the
+/// Takes lines after the first until the log has a place, but no more than a batch of them, and runs the places that wait. False once the log has the
 /// place, or has all lines of the input.
 fn run_some<T: Threads + Wait + Sync, R: Read>(
     rt: &T,
@@ -61,9 +86,9 @@ fn run_some<T: Threads + Wait + Sync, R: Read>(
 ) -> Result<bool, ReadFault>
     requires { 0 < length (ahead lines.old) → reader.old.given ≤ MOST_GIVEN_BYTES + BUFFER_BYTES }
     ensures taken { IfOk result (λ more. (input : Option (List ℕ))
-        → HasTaken input (prepend_known (ahead lines.old) (R.remaining reader.old.inner)) place engine.old.log
+        → HasTaken false input (prepend_known (ahead lines.old) (R.remaining reader.old.inner)) place engine.old.log
         → MatchBool more
-        (HasTaken input (prepend_known (ahead lines.new) (R.remaining reader.new.inner)) place engine.new.log)
+        (HasTaken false input (prepend_known (ahead lines.new) (R.remaining reader.new.inner)) place engine.new.log)
         (EndsTaking input place engine.new.log)) }
     ensures more { result ≡ Ok true → (finished engine.old < finished engine.new) × (finished engine.new ≤ place) }
     ensures all { OnOk result (finished engine.new ≡ length engine.new.log.statements) }
@@ -89,6 +114,7 @@ fn run_until<T: Threads + Wait + Sync, R: Read>(
 ) -> Result<(), ReadFault>
     requires first { engine.old.log ≡ empty_log }
     requires none { engine.old.dropped ≡ 0 }
+    requires unrun { finished engine.old ≡ 0 }
     ensures taken { OnOk result (EndsTaking (R.remaining reader.old.inner) place engine.new.log) }
     ensures all { OnOk result (finished engine.new ≡ length engine.new.log.statements) }
     ensures kept { OnOk result (engine.new.dropped ≤ place) }
@@ -96,6 +122,9 @@ fn run_until<T: Threads + Wait + Sync, R: Read>(
     ensures other { (result ≡ Err ReadFault.Read → ⊥) → reader.new.errors ≡ reader.old.errors }
 {
     let mut lines = LineReader::new(alloc)?;
+    if !take_first(alloc, reader, &mut lines, engine)? {
+        return Ok(());
+    }
     'batches: while run_some(rt, alloc, reader, &mut lines, engine, place)? {
         engine.forget();
     }

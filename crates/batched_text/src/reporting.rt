@@ -1,7 +1,10 @@
 //! The report's lines for the lines of a batch.
 
-ghost use Rattle.std.specs.Prelude.{◌≡◌, ◌<◌, ◌≤◌, ◌+◌, ◌++◌, ◌^◌, OnOk, drop, length};
+ghost use Rattle.std.specs.Prelude.{◌≡◌, ◌<◌, ◌≤◌, ◌+◌, ◌++◌, ◌^◌, IfOk, OnOk, Some, drop, length, slice_get};
+ghost use Rattle.model_base.specs.Outcomes.{outcome};
+ghost use Rattle.model_base.specs.RecordGrantees.{WereGranted};
 ghost use Rattle.report.specs.Report.{place_text};
+ghost use Rattle.report.specs.Text.{HaveGrantees};
 ghost use Rattle.bohm_base.specs.Collecting.{line_outcome_text, places_of};
 ghost use Rattle.engine.specs.Engine.{IsRun, finished};
 ghost use Rattle.sequencer.specs.Whole.{IsWhole};
@@ -10,34 +13,94 @@ ghost use Rattle.batched_text.specs.Places.{places_in};
 
 use bohm_base::LineOutcome;
 use engine::Engine;
-use model_base::{Outcome, Place, Statement};
-use report::{put_fault, put_outcome, put_refused};
-use std::alloc::AllocError;
+use log_text::Version;
+use model_base::{Grantee, Outcome, Place, RecordName, Statement};
+use report::{put_fault, put_outcome, put_refused, records_of};
+use std::alloc::{AllocError, Global};
+
+/// To whom some records of grants are, in their order, where the version of the log has them written: version 1 writes their places alone,
+/// and no grantee is returned.
+pub fn named_grantees(
+    alloc: Global,
+    engine: &Engine,
+    names: &[RecordName],
+) -> Result<Vec<Grantee>, AllocError>
+    ensures { IfOk result (λ grantees. WereGranted engine.now.log.statements (finished engine.now) names.now
+        → HaveGrantees engine.now.log.names.version engine.now.log.statements names.now grantees.items) }
+{
+    match engine.log().catalog().version() {
+        Version::One => Ok(Vec::new(alloc)),
+        Version::Two => engine.grantees_of(alloc, names),
+    }
+}
+
+/// Appends the report's line for a place by its statement and its outcome, where the version of the log has grantees written.
+#[inline(never)]
+fn put_named(
+    alloc: Global,
+    text: &mut Vec<u8>,
+    engine: &Engine,
+    place: Place,
+    statement: &Statement,
+    found: &Outcome,
+) -> Result<(), AllocError>
+    requires whole { IsWhole engine.now.log }
+    requires statement { slice_get engine.now.log.statements place ≡ Some statement.now }
+    requires found { outcome engine.now.log.statements place ≡ Some found.now }
+    requires within { place < finished engine.now }
+    ensures { OnOk result (text.new.items ≡ text.old.items ++ place_text engine.now.log.statements engine.now.log.names place) }
+{
+    let grantees = named_grantees(alloc, engine, records_of(found))?;
+    let catalog = engine.log().catalog();
+    put_outcome(text, catalog, place, &statement.form, found, &grantees)
+}
+
+/// Appends the report's line for a place by its statement and its outcome.
+#[inline(always)]
+fn put_finished(
+    alloc: Global,
+    text: &mut Vec<u8>,
+    engine: &Engine,
+    place: Place,
+    statement: &Statement,
+    found: &Outcome,
+) -> Result<(), AllocError>
+    requires whole { IsWhole engine.now.log }
+    requires statement { slice_get engine.now.log.statements place ≡ Some statement.now }
+    requires found { outcome engine.now.log.statements place ≡ Some found.now }
+    requires within { place < finished engine.now }
+    ensures { OnOk result (text.new.items ≡ text.old.items ++ place_text engine.now.log.statements engine.now.log.names place) }
+{
+    let catalog = engine.log().catalog();
+    match catalog.version() {
+        Version::One => put_outcome(text, catalog, place, &statement.form, found, &[]),
+        Version::Two => put_named(alloc, text, engine, place, statement, found),
+    }
+}
 
 /// Appends the report's line to the text for a place that is finished, and whose statement and outcome are kept. An error means out of
 /// memory: some of the line may be after the text then.
-pub fn put_place(text: &mut Vec<u8>, engine: &Engine, place: Place) -> Result<(), AllocError>
+pub fn put_place(
+    alloc: Global,
+    text: &mut Vec<u8>,
+    engine: &Engine,
+    place: Place,
+) -> Result<(), AllocError>
     requires kept { engine.now.dropped ≤ place }
     requires within { place < finished engine.now }
-    ensures { OnOk result (text.new.items ≡ text.old.items ++ place_text engine.now.log.statements engine.now.log.names.tables place) }
+    ensures { OnOk result (text.new.items ≡ text.old.items ++ place_text engine.now.log.statements engine.now.log.names place) }
 {
-    let log = engine.log();
-    let statement = log.statement(place);
-    let Some(outcome) = engine.outcome(place) else {
-        return Ok(());
-    };
-    put_outcome(
-        text,
-        log.catalog().tables(),
-        place,
-        &statement.form,
-        outcome,
-    )
+    let statement = engine.log().statement(place);
+    match engine.outcome(place) {
+        Some(found) => put_finished(alloc, text, engine, place, statement, found),
+        None => Ok(()),
+    }
 }
 
 /// An engine, with the statements and outcomes that it keeps, the first of which are those of the place before which they were dropped.
 #[derive(Drop)]
 struct KeptPlaces<'a> {
+    alloc: Global,
     engine: &'a Engine,
     statements: &'a [Statement],
     outcomes: &'a [Outcome],
@@ -55,19 +118,13 @@ fn put_kept(text: &mut Vec<u8>, kept: &KeptPlaces<'_>, place: Place) -> Result<(
     requires kept { kept.now.engine.now.dropped ≤ place }
     requires within { place < finished kept.now.engine.now }
     ensures { OnOk result (text.new.items
-        ≡ text.old.items ++ place_text kept.now.engine.now.log.statements kept.now.engine.now.log.names.tables place) }
+        ≡ text.old.items ++ place_text kept.now.engine.now.log.statements kept.now.engine.now.log.names place) }
 {
     let (statements, outcomes) = (kept.statements, kept.outcomes);
     let index = (place - kept.dropped) as usize;
     let statement = &statements[index];
     let outcome = &outcomes[index];
-    put_outcome(
-        text,
-        kept.engine.log().catalog().tables(),
-        place,
-        &statement.form,
-        outcome,
-    )
+    put_finished(kept.alloc, text, kept.engine, place, statement, outcome)
 }
 
 /// Appends the report's line for a line of this number to the text. An accepted line has this place, as in `put_kept`.
@@ -84,9 +141,10 @@ fn put_line(
     requires kept { kept.now.engine.now.dropped ≤ place }
     requires within { place + places_of line ≤ finished kept.now.engine.now }
     ensures { OnOk result (text.new.items ≡ text.old.items
-        ++ line_outcome_text kept.now.engine.now.log.statements kept.now.engine.now.log.names.tables number place line) }
+        ++ line_outcome_text kept.now.engine.now.log.statements kept.now.engine.now.log.names number place line) }
 {
     match line {
+        LineOutcome::Heading => Ok(()),
         LineOutcome::Accepted => put_kept(text, kept, place),
         LineOutcome::Faulty(fault) => put_fault(text, number, fault),
         LineOutcome::Refused(refused) => put_refused(text, number, refused),
@@ -96,6 +154,7 @@ fn put_line(
 /// Appends the report's lines for some lines to the text, from a line of this number and this place on. Their places are finished, and
 /// statements and outcomes of these are kept. An error means out of memory: some lines may be after the text then.
 pub fn put_lines(
+    alloc: Global,
     text: &mut Vec<u8>,
     engine: &Engine,
     number: u64,
@@ -113,6 +172,7 @@ pub fn put_lines(
     let statements = log.kept_statements();
     let outcomes = engine.kept_outcomes();
     let kept = KeptPlaces {
+        alloc,
         engine,
         statements,
         outcomes,

@@ -49,6 +49,7 @@ fn report_piece<'a, B: Basis, T: Threads + Wait + Sync>(
     raw: &mut LineBuffers<'a>,
 ) -> Result<usize, EngineFault>
     requires names { Begins B.names (log_names batching.old) }
+    requires version { B.names.version ≡ (log_names batching.old).version }
     requires within { from ≤ length ahead.now.buffered.bytes.now }
     requires ready { IsReadyAt runner.now.plan batching.old ahead.now.buffered from }
     ensures { Runs runner.now.plan ahead.now.buffered from batching.old batching.new result }
@@ -75,6 +76,7 @@ fn report_pieces<'a, B: Basis, T: Threads + Wait + Sync>(
     raw: &mut LineBuffers<'a>,
 ) -> Result<usize, EngineFault>
     requires begins { Begins B.names (log_names batching.old) }
+    requires version { B.names.version ≡ (log_names batching.old).version }
     requires ready { IsReadyAt runner.now.plan batching.old ahead.now.buffered 0 }
     ensures { Runs runner.now.plan ahead.now.buffered 0 batching.old batching.new result }
 {
@@ -106,6 +108,7 @@ fn run_stretch<B: Basis, T: Threads + Wait + Sync>(
     ahead: &StretchAhead<B>,
 ) -> Ran
     requires begins { Begins B.names (log_names batching) }
+    requires version { B.names.version ≡ (log_names batching).version }
     requires ready { IsReadyAt runner.now.plan batching ahead.now.buffered 0 }
     ensures { Runs runner.now.plan ahead.now.buffered 0 batching result.batching result.result }
 {
@@ -123,6 +126,7 @@ fn run_beside<B: Basis + Send + Sync, T: Threads + Wait + Sync>(
     threads: usize,
 ) -> Ran
     requires begins { Begins B.names (log_names batching) }
+    requires version { B.names.version ≡ (log_names batching).version }
     requires ready { IsReadyAt runner.now.plan batching ahead.now.buffered 0 }
     ensures { Runs runner.now.plan ahead.now.buffered 0 batching result.batching result.result }
 {
@@ -140,6 +144,7 @@ fn run_beside<B: Basis + Send + Sync, T: Threads + Wait + Sync>(
         { stretch.read_all(names, bytes) },
         move || -> Ran
             requires { IsSync T.row × (names.now ≡ B.names) × (bytes.now ≡ B.bytes) × Begins B.names (log_names batching)
+                × (B.names.version ≡ (log_names batching).version)
                 × IsReadyAt plan batching (record { bytes = bytes; given = given }) 0 }
             ensures { Runs plan (record { bytes = bytes.entry; given = given }) 0 batching result.batching result.result }
         {
@@ -170,6 +175,7 @@ pub(crate) fn run_ahead<B: Basis + Send + Sync, T: Threads + Wait + Sync>(
     requires names { names.now ≡ B.names }
     requires bytes { buffered.now.bytes.now ≡ B.bytes }
     requires begins { Begins B.names (log_names batching) }
+    requires version { B.names.version ≡ (log_names batching).version }
     requires ready { IsReadyAt runner.now.plan batching buffered.now 0 }
     ensures { Runs runner.now.plan buffered.now 0 batching result.0.batching result.0.result }
 {

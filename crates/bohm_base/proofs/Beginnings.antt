@@ -15,20 +15,20 @@ use Rattle.bohm_base.proofs.Logs.{report_is}
 
 -- the line of an index of the log's lines is pending too
 pub moves_on : (o n : Option (List ℕ)) (log : Accepted) (lines : List LineOutcome) (index place places : ℕ) (d : LineOutcome) (pending : List ℕ)
-    → MovesOut o n (log_text log lines) (pending ++ report_text log.statements log.names.tables (index + 1) place (drop index lines))
+    → MovesOut o n (log_text log lines) (pending ++ report_text log.statements log.names (index + 1) place (drop index lines))
     → index < length lines → places ≡ places_of (get_or lines index d)
-    → MovesOut o n (log_text log lines) ((pending ++ line_outcome_text log.statements log.names.tables (index + 1) place (get_or lines index d))
-    ++ report_text log.statements log.names.tables (index + 1 + 1) (place + places) (drop (index + 1) lines))
+    → MovesOut o n (log_text log lines) ((pending ++ line_outcome_text log.statements log.names (index + 1) place (get_or lines index d))
+    ++ report_text log.statements log.names (index + 1 + 1) (place + places) (drop (index + 1) lines))
 moves_on o n log lines index place places d pending moves low places_is =
     let line : LineOutcome = get_or lines index d in
-    let text : List ℕ = line_outcome_text log.statements log.names.tables (index + 1) place line in
-    let rest : ℕ → List ℕ = λ next. report_text log.statements log.names.tables (index + 1 + 1) next (drop (index + 1) lines) in
+    let text : List ℕ = line_outcome_text log.statements log.names (index + 1) place line in
+    let rest : ℕ → List ℕ = λ next. report_text log.statements log.names (index + 1 + 1) next (drop (index + 1) lines) in
     let split : drop index lines ≡ line ∷ drop (index + 1) lines =
     drop-cons lines index d low ∙ ap (λ (k : ℕ). line ∷ drop k lines) (sym (add-one index)) in
-    let same : (pending ++ text) ++ rest (place + places) ≡ pending ++ report_text log.statements log.names.tables (index + 1) place (drop index lines) =
+    let same : (pending ++ text) ++ rest (place + places) ≡ pending ++ report_text log.statements log.names (index + 1) place (drop index lines) =
     append_assoc pending text (rest (place + places))
     ∙ ap (λ (k : ℕ). pending ++ (text ++ rest (place + k))) places_is
-    ∙ ap (λ (ls : List LineOutcome). pending ++ report_text log.statements log.names.tables (index + 1) place ls) (sym split) in
+    ∙ ap (λ (ls : List LineOutcome). pending ++ report_text log.statements log.names (index + 1) place ls) (sym split) in
     subst (MovesOut o n (log_text log lines)) (sym same) moves
 
 -- a front of what was pending is written

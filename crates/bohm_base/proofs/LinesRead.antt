@@ -1,52 +1,94 @@
 -- The lines that were read, and what they became.
-use Rattle.std.proofs.Common.{◌≡◌, ◌≢◌, ℕ, ◌<◌, List, [], ◌∷◌, ◌++◌, length, take, Option, Some, None, refl, ap, sym, ◌∙◌, subst, inl, inr, arith, append_assoc}
-use Rattle.std.specs.Prelude.{Result, Ok, Err, IfErr, IsErrAnd, IfOk, IfSome, OnOk}
+use Rattle.std.proofs.Common.{◌≡◌, ◌≢◌, ℕ, ◌<◌, ◌&&◌, Bool, true, false, List, [], ◌∷◌, ◌++◌, length, take, Option, Some, None, refl, ap, sym, ◌∙◌, subst, inl, inr, arith, append_assoc}
+use Rattle.std.specs.Prelude.{◌==◌, Result, Ok, Err, IfErr, IsErrAnd, IfOk, IfSome, OnOk, bytes_eq}
 use Rattle.std.specs.Io.KnownBytes.{IsAtEnd, prepend_known}
-use Rattle.std.proofs.lemmas.List.{append-nil, take_all, length-take-le}
-use Rattle.std.proofs.lemmas.Bool.{cases_lt, cond-true, lt-ltb}
+use Rattle.std.proofs.lemmas.List.{append-nil, length-append, take_all, length-take-le}
+use Rattle.std.proofs.lemmas.Bool.{cases_Bool, cases_lt, cond-true, lt-ltb, ne_eqb}
+use Rattle.std.proofs.lemmas.Slice.Eq.{bytes_eq-Decides}
 use Rattle.line_io.specs.Known.{HadSome, TookLine, raised}
 use Rattle.line_io.specs.declared.fault.ReadFault.{ReadFault}
 use Rattle.line_io.specs.Lines.{lines_of, first_line, other_lines}
 use Rattle.line_io.proofs.LinesLaws.{lines_first}
-use Rattle.log_text.specs.Statement.{Sentence, Reads}
-use Rattle.log_text.specs.Fault.{line_fault}
+use Rattle.log_text.specs.Statement.{Sentence, ReadsIn}
+use Rattle.log_text.specs.Fault.{fault_in}
+use Rattle.log_text.specs.Versions.{heading_line}
+use Rattle.log_text.specs.declared.version.Version.{Version}
 use Rattle.line_words.specs.declared.fault.LineFault.{LineFault}
+use Rattle.sequencer.specs.Catalog.{Names, no_names}
 use Rattle.sequencer.specs.Log.{Accepted, empty_log}
-use Rattle.report.specs.Report.{AreParsedLines, IsParsedLine, ParsedLine}
+use Rattle.report.specs.Report.{AreParsedFrom, AreParsedLines, IsParsedLine, ParsedLine, the_heading, is_heading, names_after, version_with}
+use Rattle.report.proofs.ReportLemmas.{names_after-append, version-with}
 use Rattle.bohm_base.specs.declared.collecting.LineOutcome.{LineOutcome}
 use Rattle.bohm_base.specs.declared.fault.EngineFault.{EngineFault}
 use Rattle.bohm_base.specs.Faults.{of_reading, read_errors}
 use Rattle.bohm_base.specs.Collecting.{Collects, CollectsSoFar, AreReadBefore, ReadsAs, line_outcome, reading_of, with_reading}
-use Rattle.bohm_base.proofs.Logs.{log_step}
+use Rattle.bohm_base.proofs.Logs.{length-line_outcomes, log_step}
 
-too_long : (l : List ℕ) → 4096 < length l → line_fault l ≡ Some LineFault.TooLong
-too_long l long = cond-true _ _ _ (lt-ltb 4096 (length l) long)
+too_long : (version : Version) (l : List ℕ) → 4096 < length l → fault_in version l ≡ Some LineFault.TooLong
+too_long version l long = cond-true _ _ _ (lt-ltb 4096 (length l) long)
 
 -- 4,097 bytes of a line are enough to find its fault
-kept_fault : (l : List ℕ) → line_fault (take 4097 l) ≡ line_fault l
-kept_fault l =
+kept_fault : (version : Version) (l : List ℕ) → fault_in version (take 4097 l) ≡ fault_in version l
+kept_fault version l =
     elim (cases_lt 4096 (length l)) [
-      | inl long ↦ too_long (take 4097 l) (omega (arith, length-take-le 4097 l (omega arith))) ∙ sym (too_long l long)
-      | inr short ↦ ap line_fault (take_all 4097 l (omega arith))
+      | inl long ↦ too_long version (take 4097 l) (omega (arith, length-take-le 4097 l (omega arith))) ∙ sym (too_long version l long)
+      | inr short ↦ ap (fault_in version) (take_all 4097 l (omega arith))
     ]
 
 -- and to read it
-kept_reading : (line whole : List ℕ) (sentence : Sentence) → Reads line sentence → line_fault line ≡ None → line ≡ take 4097 whole → Reads whole sentence
-kept_reading line whole sentence reads sound is =
+kept_reading : (version : Version) (line whole : List ℕ) (sentence : Sentence) → ReadsIn version line sentence → fault_in version line ≡ None → line ≡ take 4097 whole
+    → ReadsIn version whole sentence
+kept_reading version line whole sentence reads sound is =
     elim (cases_lt 4096 (length whole)) [
-      | inl long ↦ let bad : Some LineFault.TooLong ≡ None = sym (too_long whole long) ∙ sym (kept_fault whole) ∙ ap line_fault (sym is) ∙ sound in cc
-      | inr short ↦ subst (λ (l : List ℕ). Reads l sentence) (is ∙ take_all 4097 whole (omega arith)) reads
+      | inl long ↦
+          let bad : Some LineFault.TooLong ≡ None =
+          sym (too_long version whole long) ∙ sym (kept_fault version whole) ∙ ap (fault_in version) (sym is) ∙ sound in cc
+      | inr short ↦ subst (λ (l : List ℕ). ReadsIn version l sentence) (is ∙ take_all 4097 whole (omega arith)) reads
     ]
 
-kept_faulty : (line whole : List ℕ) (fault : LineFault) → line_fault line ≡ Some fault → line ≡ take 4097 whole → line_fault whole ≡ Some fault
-kept_faulty line whole fault found is = sym (kept_fault whole) ∙ ap line_fault (sym is) ∙ found
+kept_faulty : (version : Version) (line whole : List ℕ) (fault : LineFault) → fault_in version line ≡ Some fault → line ≡ take 4097 whole
+    → fault_in version whole ≡ Some fault
+kept_faulty version line whole fault found is = sym (kept_fault version whole) ∙ ap (fault_in version) (sym is) ∙ found
 
--- what the parser answers of 4,097 bytes of a line is how the line is read
-pub reads_as : (line : List ℕ) (found : Result Sentence LineFault) → IfOk found (λ sentence. Reads line sentence) → OnOk found (line_fault line ≡ None)
-    → IfErr found (λ fault. fault ≢ LineFault.NoMemory → line_fault line ≡ Some fault) → found ≢ Err LineFault.NoMemory → ReadsAs line (reading_of found)
-reads_as line (Ok sentence) reads sound faulty told = λ whole is. kept_reading line whole sentence reads sound is
-reads_as line (Err fault) reads sound faulty told = λ whole is.
-    kept_faulty line whole fault (faulty (λ same. told (let P : LineFault → Result Sentence LineFault = λ f. Err f in ap P same))) is
+-- a long line isn't the heading
+no_heading : (l : List ℕ) → 4096 < length l → bytes_eq l heading_line ≡ false
+no_heading l long =
+    elim (cases_Bool (bytes_eq l heading_line)) [
+      | inl same ↦ absurd (let count = ap length ((bytes_eq-Decides l heading_line).0 same) in omega (arith, count))
+      | inr other ↦ other
+    ]
+
+-- a line that is some other isn't either
+pub other_line : (first : Bool) (line : List ℕ) → bytes_eq line heading_line ≡ false → is_heading first line ≡ false
+other_line true line other = other
+other_line false line other = refl
+
+-- they are enough to tell whether it is the heading
+kept_heading : (first : Bool) (line whole : List ℕ) → line ≡ take 4097 whole → is_heading first line ≡ is_heading first whole
+kept_heading first line whole is =
+    ap (λ (l : List ℕ). is_heading first l) is
+    ∙ elim (cases_lt 4096 (length whole)) [
+      | inl long ↦
+          ap (λ (b : Bool). first && b)
+          (no_heading (take 4097 whole) (omega (arith, length-take-le 4097 whole (omega arith))) ∙ sym (no_heading whole long))
+      | inr short ↦ ap (is_heading first) (take_all 4097 whole (omega arith))
+    ]
+
+-- what the parser answers of 4,097 bytes of a line that isn't the heading is how the line is read
+pub reads_as : (first : Bool) (version : Version) (line : List ℕ) (found : Result Sentence LineFault) → is_heading first line ≡ false
+    → IfOk found (λ sentence. ReadsIn version line sentence) → OnOk found (fault_in version line ≡ None)
+    → IfErr found (λ fault. fault ≢ LineFault.NoMemory → fault_in version line ≡ Some fault) → found ≢ Err LineFault.NoMemory
+    → ReadsAs first version line (reading_of found)
+reads_as first version line (Ok sentence) other reads sound faulty told = λ whole is.
+    (sym (kept_heading first line whole is) ∙ other, kept_reading version line whole sentence reads sound is)
+reads_as first version line (Err fault) other reads sound faulty told = λ whole is. (
+  sym (kept_heading first line whole is) ∙ other,
+  kept_faulty version line whole fault (faulty (λ same. told (let P : LineFault → Result Sentence LineFault = λ f. Err f in ap P same))) is,
+)
+
+-- 4,097 bytes of a line that are the heading are the whole line
+pub reads_heading : (first : Bool) (version : Version) (line : List ℕ) → is_heading first line ≡ true → ReadsAs first version line the_heading
+reads_heading first version line headed = λ whole is. sym (kept_heading first line whole is) ∙ headed
 
 -- at first no line is read
 pub collect_start : (i : Option (List ℕ)) (bytes : List ℕ) → bytes ≡ [] → CollectsSoFar i (prepend_known bytes i) empty_log []
@@ -54,28 +96,52 @@ collect_start None bytes none = tt
 collect_start (Some xs) bytes none =
     ([], (subst (λ (w : List ℕ). AreReadBefore xs (w ++ xs) []) (sym none) (λ later reads. reads), record { names = refl; statements = refl; each = refl }))
 
-lead_step : (input ys zs : List ℕ) (earlier : List ParsedLine) (reading : ParsedLine) → 0 < length ys → zs ≡ other_lines ys → IsParsedLine (first_line ys) reading
+-- the version that the lines leave, and one more
+version-next : (earlier : List ParsedLine) (reading : ParsedLine)
+    → (names_after no_names (earlier ++ reading ∷ [])).version ≡ version_with (names_after no_names earlier).version reading
+version-next earlier reading =
+    ap (λ (names : Names). names.version) (names_after-append no_names earlier (reading ∷ []))
+    ∙ version-with (names_after no_names earlier) reading
+
+-- no line after another is the first
+not-first : (earlier : List ParsedLine) (reading : ParsedLine) → (length (earlier ++ reading ∷ []) == 0) ≡ false
+not-first earlier reading =
+    ne_eqb (length (earlier ++ reading ∷ [])) 0 (λ none. omega (arith, none, length-append earlier (reading ∷ [])))
+
+lead_step : (input ys zs : List ℕ) (earlier : List ParsedLine) (reading : ParsedLine) → 0 < length ys → zs ≡ other_lines ys
+    → IsParsedLine (length earlier == 0) (names_after no_names earlier).version (first_line ys) reading
     → AreReadBefore input ys earlier → AreReadBefore input zs (earlier ++ reading ∷ [])
-lead_step input [] zs earlier reading some others reads leads = absurd (omega arith)
+lead_step input [] zs earlier _ some others reads leads = absurd (omega arith)
 lead_step input (b ∷ bs) zs earlier reading some others reads leads = λ later rest.
-    let first : AreParsedLines (lines_of (b ∷ bs)) (reading ∷ later) =
-    subst (λ (ls : List (List ℕ)). AreParsedLines ls (reading ∷ later)) (sym (lines_first b bs)) (reads, subst (λ (l : List ℕ). AreParsedLines (lines_of l) later) others rest) in
+    let version : Version = (names_after no_names earlier).version in
+    let next : AreParsedFrom false (version_with version reading) (lines_of (other_lines (b ∷ bs))) later =
+    subst (λ (l : List ℕ). AreParsedFrom false (version_with version reading) (lines_of l) later) others
+    (subst (λ (v : Version). AreParsedFrom false v (lines_of zs) later) (version-next earlier reading)
+    (subst (λ (f : Bool). AreParsedFrom f (names_after no_names (earlier ++ reading ∷ [])).version (lines_of zs) later) (not-first earlier reading) rest)) in
+    let first : AreParsedFrom (length earlier == 0) version (lines_of (b ∷ bs)) (reading ∷ later) =
+    subst (λ (ls : List (List ℕ)). AreParsedFrom (length earlier == 0) version ls (reading ∷ later)) (sym (lines_first b bs)) (reads, next) in
     subst (AreParsedLines (lines_of input)) (sym (append_assoc earlier (reading ∷ []) later)) (leads (reading ∷ later) first)
 
 -- one more line
-pub collect_step : (i j k : Option (List ℕ)) (log new : Accepted) (lines more : List LineOutcome) (known : List ℕ) (line : LineOutcome)
-    → CollectsSoFar i j log lines → TookLine j k [] known × HadSome j
-    → ((reading : ParsedLine) × (ReadsAs known reading × ((line ≡ line_outcome log.names reading) × (new ≡ with_reading log reading))))
+pub collect_step : (i j k : Option (List ℕ)) (log new : Accepted) (lines more : List LineOutcome) (known : List ℕ) (first : Bool) (line : LineOutcome)
+    → CollectsSoFar i j log lines → TookLine j k [] known × HadSome j → first ≡ (length lines == 0)
+    → ((reading : ParsedLine) × (ReadsAs first log.names.version known reading × ((line ≡ line_outcome log.names reading) × (new ≡ with_reading log reading))))
     → more ≡ lines ++ line ∷ [] → CollectsSoFar i k new more
-collect_step None j k log new lines more known line so took dealt is = tt
-collect_step (Some xs) None k log new lines more known line so took dealt is = absurd so
-collect_step (Some xs) (Some ys) None log new lines more known line so took dealt is = absurd took.0
-collect_step (Some xs) (Some ys) (Some zs) log new lines more known line so took dealt is =
+collect_step None j k log new lines more known first line so took begins dealt is = tt
+collect_step (Some xs) None k log new lines more known first line so took begins dealt is = absurd so
+collect_step (Some xs) (Some ys) None log new lines more known first line so took begins dealt is = absurd took.0
+collect_step (Some xs) (Some ys) (Some zs) log new lines more known first line so took begins dealt is =
     let earlier : List ParsedLine = so.0 in
-    let reading : ParsedLine = dealt.0 in (
+    let reading : ParsedLine = dealt.0 in
+    let count : length lines ≡ length earlier = ap length so.1.1.each ∙ length-line_outcomes no_names earlier in
+    let first-is : first ≡ (length earlier == 0) = begins ∙ ap (λ (n : ℕ). n == 0) count in
+    let version : log.names.version ≡ (names_after no_names earlier).version = ap (λ (names : Names). names.version) so.1.1.names in
+    let reads : IsParsedLine (length earlier == 0) (names_after no_names earlier).version (first_line ys) reading =
+    subst (λ (v : Version). IsParsedLine (length earlier == 0) v (first_line ys) reading) version
+    (subst (λ (f : Bool). IsParsedLine f log.names.version (first_line ys) reading) first-is (dealt.1.0 (first_line ys) took.0.0)) in (
       earlier ++ reading ∷ [],
       (
-        lead_step xs ys zs earlier reading took.1 took.0.1 (dealt.1.0 (first_line ys) took.0.0) so.1.0,
+        lead_step xs ys zs earlier reading took.1 took.0.1 reads so.1.0,
         log_step earlier reading log new lines more line so.1.1 dealt.1.1.0 dealt.1.1.1 is,
       ),
     )
@@ -86,7 +152,10 @@ pub collect_end : (i j : Option (List ℕ)) (log : Accepted) (lines : List LineO
 collect_end None j log lines so end = tt
 collect_end (Some xs) None log lines so end = absurd so
 collect_end (Some xs) (Some ys) log lines so end =
-    let none : AreParsedLines (lines_of ys) [] = subst (λ (l : List ℕ). AreParsedLines (lines_of l) []) (sym end) tt in
+    let earlier : List ParsedLine = so.0 in
+    let first : Bool = length earlier == 0 in
+    let version : Version = (names_after no_names earlier).version in
+    let none : AreParsedFrom first version (lines_of ys) [] = subst (λ (l : List ℕ). AreParsedFrom first version (lines_of l) []) (sym end) tt in
     (so.0, (subst (AreParsedLines (lines_of xs)) (append-nil so.0) (so.1.0 [] none), so.1.1))
 
 -- what a fault of reading says of the reader's failures

@@ -1,13 +1,14 @@
 -- Logs and names, line after line.
-use Rattle.std.proofs.Common.{◌≡◌, ℕ, ◌+◌, List, [], ◌∷◌, ◌++◌, Option, Some, None, refl, ap, sym, ◌∙◌, arith}
+use Rattle.std.proofs.Common.{◌≡◌, ℕ, ◌+◌, List, [], ◌∷◌, ◌++◌, length, Option, Some, None, refl, ap, sym, ◌∙◌, arith}
 use Rattle.std.proofs.lemmas.List.{append-nil}
 use Rattle.model_base.specs.declared.statement.Statement.{Statement}
 use Rattle.log_text.specs.Statement.{Sentence}
 use Rattle.sequencer.specs.Catalog.{Names, no_names}
-use Rattle.sequencer.specs.Log.{Accepted}
+use Rattle.log_text.specs.declared.version.Version.{Version}
+use Rattle.sequencer.specs.Log.{Accepted, in_version}
 use Rattle.sequencer.specs.Refusal.{refusal}
 use Rattle.sequencer.specs.declared.refused.Refused.{Refused}
-use Rattle.report.specs.Report.{IsReport, ParsedLine, read, faulty, accepted, line_text, log_of, names_after, names_if, names_with, report_from, text_if}
+use Rattle.report.specs.Report.{IsReport, ParsedLine, the_heading, read, faulty, accepted, line_text, log_of, names_after, names_if, names_with, report_from, text_if}
 use Rattle.report.proofs.ReportLemmas.{log_of-append, names_after-append}
 use Rattle.bohm_base.specs.declared.collecting.LineOutcome.{LineOutcome}
 use Rattle.bohm_base.specs.Collecting.{Collects, IsLogOf, line_outcomes, line_outcome, outcome_unless, line_outcome_text, log_text, places_of, report_text, with_reading}
@@ -16,11 +17,20 @@ line_outcomes-append : (names : Names) (xs ys : List ParsedLine) → line_outcom
 line_outcomes-append names [] ys = refl
 line_outcomes-append names (x ∷ xs) ys = ap (λ (lines : List LineOutcome). line_outcome names x ∷ lines) (line_outcomes-append (names_with names x) xs ys)
 
+-- each line became one thing
+pub length-line_outcomes : (names : Names) (readings : List ParsedLine) → length (line_outcomes names readings) ≡ length readings
+length-line_outcomes names [] = refl
+length-line_outcomes names (reading ∷ readings) = let rest = length-line_outcomes (names_with names reading) readings in omega arith
+
 -- a line that adds nothing
 pub unchanged : (log : Accepted) → log ≡ record { names = log.names; statements = log.statements ++ [] }
 unchanged log =
     let with_statements : List Statement → Accepted = λ statements. record { names = log.names; statements = statements } in
     ap with_statements (sym (append-nil log.statements))
+
+-- the heading adds nothing, and sets the version
+pub headed : (log : Accepted) → in_version Version.Two log ≡ with_reading log the_heading
+headed log = unchanged (in_version Version.Two log)
 
 -- the lines so far, and one more
 pub log_step : (earlier : List ParsedLine) (reading : ParsedLine) (log new : Accepted) (lines more : List LineOutcome) (line : LineOutcome)
@@ -46,26 +56,28 @@ places_if names sentence None = refl
 places_if names sentence (Some refused) = omega arith
 
 places_with : (names : Names) (reading : ParsedLine) → names.places + places_of (line_outcome names reading) ≡ (names_with names reading).places
+places_with names the_heading = omega arith
 places_with names (read sentence) = places_if names sentence (refusal names sentence)
 places_with names (faulty fault) = omega arith
 
 -- the report's line for a line, by what it became
-text_same_if : (log : List Statement) (tables : List (List ℕ)) (number place : ℕ) (o : Option Refused) → text_if log tables number place o ≡ line_outcome_text log tables number place (outcome_unless o)
-text_same_if log tables number place None = refl
-text_same_if log tables number place (Some refused) = refl
+text_same_if : (log : List Statement) (all : Names) (number place : ℕ) (o : Option Refused) → text_if log all number place o ≡ line_outcome_text log all number place (outcome_unless o)
+text_same_if log all number place None = refl
+text_same_if log all number place (Some refused) = refl
 
-text_same : (log : List Statement) (tables : List (List ℕ)) (number : ℕ) (names : Names) (reading : ParsedLine) → line_text log tables number names reading ≡ line_outcome_text log tables number names.places (line_outcome names reading)
-text_same log tables number names (read sentence) = text_same_if log tables number names.places (refusal names sentence)
-text_same log tables number names (faulty fault) = refl
+text_same : (log : List Statement) (all : Names) (number : ℕ) (names : Names) (reading : ParsedLine) → line_text log all number names reading ≡ line_outcome_text log all number names.places (line_outcome names reading)
+text_same log all number names the_heading = refl
+text_same log all number names (read sentence) = text_same_if log all number names.places (refusal names sentence)
+text_same log all number names (faulty fault) = refl
 
 -- the report of some lines, by what they became
-report_same : (log : List Statement) (tables : List (List ℕ)) (number : ℕ) (names : Names) (readings : List ParsedLine)
-    → report_from log tables number names readings ≡ report_text log tables number names.places (line_outcomes names readings)
-report_same log tables number names [] = refl
-report_same log tables number names (reading ∷ readings) =
-    ap (λ (t : List ℕ). t ++ report_from log tables (number + 1) (names_with names reading) readings) (text_same log tables number names reading)
-    ∙ ap (λ (t : List ℕ). line_outcome_text log tables number names.places (line_outcome names reading) ++ t) (report_same log tables (number + 1) (names_with names reading) readings)
-    ∙ ap (λ (p : ℕ). line_outcome_text log tables number names.places (line_outcome names reading) ++ report_text log tables (number + 1) p (line_outcomes (names_with names reading) readings))
+report_same : (log : List Statement) (all : Names) (number : ℕ) (names : Names) (readings : List ParsedLine)
+    → report_from log all number names readings ≡ report_text log all number names.places (line_outcomes names readings)
+report_same log all number names [] = refl
+report_same log all number names (reading ∷ readings) =
+    ap (λ (t : List ℕ). t ++ report_from log all (number + 1) (names_with names reading) readings) (text_same log all number names reading)
+    ∙ ap (λ (t : List ℕ). line_outcome_text log all number names.places (line_outcome names reading) ++ t) (report_same log all (number + 1) (names_with names reading) readings)
+    ∙ ap (λ (p : ℕ). line_outcome_text log all number names.places (line_outcome names reading) ++ report_text log all (number + 1) p (line_outcomes (names_with names reading) readings))
     (sym (places_with names reading))
 
 -- the report of a log that was collected is the report of its text
@@ -77,9 +89,9 @@ report_is input log lines collects =
       readings,
       (
         collects.1.0,
-        ap (λ (xs : List Statement). report_text xs log.names.tables 1 0 lines) so.statements
-            ∙ ap (λ (n : Names). report_text statements n.tables 1 0 lines) so.names
-            ∙ ap (λ (bs : List LineOutcome). report_text statements (names_after no_names readings).tables 1 0 bs) so.each
-            ∙ sym (report_same statements (names_after no_names readings).tables 1 no_names readings),
+        ap (λ (xs : List Statement). report_text xs log.names 1 0 lines) so.statements
+            ∙ ap (λ (n : Names). report_text statements n 1 0 lines) so.names
+            ∙ ap (λ (bs : List LineOutcome). report_text statements (names_after no_names readings) 1 0 bs) so.each
+            ∙ sym (report_same statements (names_after no_names readings) 1 no_names readings),
       ),
     )

@@ -33,7 +33,7 @@ found : {A : Type 0} (P : A → Type 0) (test : A → Bool) (xs : List A) → Al
 found P test [] all = tt
 found P test (x ∷ xs) all = found_if P (test x) x (find test xs) (All-head P x xs all) (found P test xs (All-tail P x xs all))
 
-got : {A : Type 0} (P : A → Type 0) (xs : List A) (i : ℕ) → All P xs → IfSome (slice_get xs i) P
+pub got : {A : Type 0} (P : A → Type 0) (xs : List A) (i : ℕ) → All P xs → IfSome (slice_get xs i) P
 got P [] i all = tt
 got P (x ∷ xs) zero all = All-head P x xs all
 got P (x ∷ xs) (suc i) all = got P xs i (All-tail P x xs all)

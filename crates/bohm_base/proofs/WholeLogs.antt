@@ -6,7 +6,7 @@ use Rattle.log_text.specs.declared.statement.RawForm.{RawForm}
 use Rattle.sequencer.specs.Catalog.{Names}
 use Rattle.sequencer.specs.Refusal.{refusal}
 use Rattle.sequencer.specs.declared.refused.Refused.{Refused}
-use Rattle.report.specs.Report.{ParsedLine, read, faulty, names_after, names_if, names_with}
+use Rattle.report.specs.Report.{ParsedLine, the_heading, read, faulty, names_after, names_if, names_with}
 
 -- the tables stay, and others may come after them
 abbrev pub Longer : List (List ℕ) → List (List ℕ) → Type 0
@@ -19,6 +19,7 @@ tables_if names user (RawForm.Deed deed) None = ([], sym (append-nil names.table
 tables_if names user form (Some r) = ([], sym (append-nil names.tables))
 
 tables_with : (names : Names) (r : ParsedLine) → Longer names.tables (names_with names r).tables
+tables_with names the_heading = ([], sym (append-nil names.tables))
 tables_with names (read s) = tables_if names s.user s.form (refusal names s)
 tables_with names (faulty f) = ([], sym (append-nil names.tables))
 

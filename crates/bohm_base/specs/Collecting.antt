@@ -1,17 +1,18 @@
 -- What the lines of a log became, and the report of the log by that.
-use Rattle.std.specs.Prelude.{◌≡◌, ◌≢◌, ℕ, ◌+◌, ⊤, Result, Ok, Err, Option, Some, None, List, [], ◌∷◌, ◌++◌, take, Vec}
+use Rattle.std.specs.Prelude.{◌≡◌, ◌≢◌, ℕ, ◌+◌, ◌==◌, ⊤, Bool, length, Result, Ok, Err, Option, Some, None, List, [], ◌∷◌, ◌++◌, take, Vec}
 use Rattle.std.specs.declared.alloc.Global.{Global}
 use Rattle.model_base.specs.declared.statement.Statement.{Statement}
 use Rattle.line_io.specs.Lines.{lines_of}
 use Rattle.line_io.specs.declared.limits.TheConstants.{KEPT_BYTES}
 use Rattle.log_text.specs.Statement.{Sentence}
+use Rattle.log_text.specs.declared.version.Version.{Version}
 use Rattle.line_words.specs.declared.fault.LineFault.{LineFault}
 use Rattle.sequencer.specs.Catalog.{Names, no_names}
 use Rattle.sequencer.specs.Log.{Accepted}
 use Rattle.sequencer.specs.Refusal.{refusal}
 use Rattle.sequencer.specs.declared.refused.Refused.{Refused}
 use Rattle.report.specs.Text.{LacksRoom, fault_word, refused_text, refused_word}
-use Rattle.report.specs.Report.{AreParsedLines, IsParsedLine, ParsedLine, read, faulty, accepted, log_of, names_after, names_with, place_text}
+use Rattle.report.specs.Report.{AreParsedFrom, AreParsedLines, IsParsedLine, ParsedLine, the_heading, read, faulty, accepted, log_of, names_after, names_with, place_text}
 use Rattle.bohm_base.specs.declared.collecting.LineOutcome.{LineOutcome}
 
 -- what the line of a statement became, which the log takes or refuses
@@ -21,6 +22,7 @@ outcome_unless (Some refused) = LineOutcome.Refused refused
 
 -- what a line became that was read so
 abbrev pub line_outcome : Names → ParsedLine → LineOutcome
+line_outcome names the_heading = LineOutcome.Heading
 line_outcome names (read sentence) = outcome_unless (refusal names sentence)
 line_outcome names (faulty fault) = LineOutcome.Faulty fault
 
@@ -31,29 +33,32 @@ line_outcomes names (reading ∷ readings) = line_outcome names reading ∷ line
 
 -- how many places of the log a line has
 abbrev pub places_of : LineOutcome → ℕ
+places_of LineOutcome.Heading = 0
 places_of LineOutcome.Accepted = 1
 places_of (LineOutcome.Faulty fault) = 0
 places_of (LineOutcome.Refused refused) = 0
 
--- the report's line for a line of this number, which has this place if it has one
-abbrev pub line_outcome_text : List Statement → List (List ℕ) → ℕ → ℕ → LineOutcome → List ℕ
-line_outcome_text log tables number place LineOutcome.Accepted = place_text log tables place
-line_outcome_text log tables number place (LineOutcome.Faulty fault) = refused_text number (fault_word fault)
-line_outcome_text log tables number place (LineOutcome.Refused refused) = refused_text number (refused_word refused)
+-- the report's line for a line of this number, which has this place if it has one; the heading has none
+abbrev pub line_outcome_text : List Statement → Names → ℕ → ℕ → LineOutcome → List ℕ
+line_outcome_text log names number place LineOutcome.Heading = []
+line_outcome_text log names number place LineOutcome.Accepted = place_text log names place
+line_outcome_text log names number place (LineOutcome.Faulty fault) = refused_text number (fault_word fault)
+line_outcome_text log names number place (LineOutcome.Refused refused) = refused_text number (refused_word refused)
 
 -- the report's lines from a line of this number on, before which there are this many places
-abbrev pub report_text : List Statement → List (List ℕ) → ℕ → ℕ → List LineOutcome → List ℕ
-report_text log tables number place [] = []
-report_text log tables number place (line ∷ lines) =
-    line_outcome_text log tables number place line ++ report_text log tables (number + 1) (place + places_of line) lines
+abbrev pub report_text : List Statement → Names → ℕ → ℕ → List LineOutcome → List ℕ
+report_text log names number place [] = []
+report_text log names number place (line ∷ lines) =
+    line_outcome_text log names number place line ++ report_text log names (number + 1) (place + places_of line) lines
 
 -- the report of a log by what its lines became
 abbrev pub log_text : Accepted → List LineOutcome → List ℕ
-log_text log lines = report_text log.statements log.names.tables 1 0 lines
+log_text log lines = report_text log.statements log.names 1 0 lines
 
--- a line of which at most `KEPT_BYTES` are known is read so
-abbrev pub ReadsAs : List ℕ → ParsedLine → Type 0
-ReadsAs known reading = (line : List ℕ) → known ≡ take KEPT_BYTES line → IsParsedLine line reading
+-- a line of this version, of which at most `KEPT_BYTES` are known, is read so
+abbrev pub ReadsAs : Bool → Version → List ℕ → ParsedLine → Type 0
+ReadsAs first version known reading =
+    (line : List ℕ) → known ≡ take KEPT_BYTES line → IsParsedLine first version line reading
 
 -- how a line was read, by what the parser answers
 abbrev pub reading_of : Result Sentence LineFault → ParsedLine
@@ -69,12 +74,14 @@ with_reading log reading = record {
 
 -- memory may be refused while a line is read and taken that becomes so: it has no fault, and the log does not refuse it
 abbrev pub LineMayLackMemory : LineOutcome → Type 0
+LineMayLackMemory LineOutcome.Heading = ⊥
 LineMayLackMemory LineOutcome.Accepted = ⊤
 LineMayLackMemory (LineOutcome.Faulty fault) = fault ≡ LineFault.NoMemory
 LineMayLackMemory (LineOutcome.Refused refused) = ⊥
 
 -- memory may be refused for the report's line for a line that became so: where it has no place, the line finds no room after the text
 abbrev pub MayLackRoom : ℕ → Vec ℕ Global → LineOutcome → Type 0
+MayLackRoom number text LineOutcome.Heading = ⊥
 MayLackRoom number text LineOutcome.Accepted = ⊤
 MayLackRoom number text (LineOutcome.Faulty fault) = fault ≢ LineFault.NoMemory → LacksRoom text (refused_text number (fault_word fault))
 MayLackRoom number text (LineOutcome.Refused refused) = LacksRoom text (refused_text number (refused_word refused))
@@ -90,10 +97,12 @@ abbrev pub Collects : List ℕ → Accepted → List LineOutcome → Type 0
 Collects input log lines =
     (readings : List ParsedLine) × (AreParsedLines (lines_of input) readings × IsLogOf readings log lines)
 
--- the lines before what is still to come are read so
+-- the lines before what is still to come are read so, if that is of the version that they leave
 abbrev pub AreReadBefore : List ℕ → List ℕ → List ParsedLine → Type 0
 AreReadBefore input rest earlier =
-    (later : List ParsedLine) → AreParsedLines (lines_of rest) later → AreParsedLines (lines_of input) (earlier ++ later)
+    (later : List ParsedLine)
+    → AreParsedFrom (length earlier == 0) (names_after no_names earlier).version (lines_of rest) later
+    → AreParsedLines (lines_of input) (earlier ++ later)
 
 -- the log of the reader's lines up to where it is now, and what each of them became
 abbrev pub CollectsSoFar : Option (List ℕ) → Option (List ℕ) → Accepted → List LineOutcome → Type 0

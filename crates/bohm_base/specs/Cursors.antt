@@ -6,4 +6,4 @@ use Rattle.bohm_base.specs.Collecting.{line_outcome_text}
 
 -- the report's line for a line that is there
 abbrev pub text_at : ReportCursor → LineOutcome → List ℕ
-text_at cursor line = line_outcome_text cursor.log.now.statements cursor.log.now.names.tables cursor.number cursor.place line
+text_at cursor line = line_outcome_text cursor.log.now.statements cursor.log.now.names cursor.number cursor.place line

@@ -11,7 +11,7 @@ ghost use Rattle.bohm_base.specs.Collecting.{Collects, LineMayLackMemory, ReadsA
 
 use crate::fault::EngineFault;
 use line_io::{Counted, LineReader};
-use log_text::{LineFault, RawStatement, parse_line};
+use log_text::{LineFault, RawStatement, Version, is_heading_line, parse_line_in};
 use model_base::HashSeed;
 use sequencer::{Log, Refused};
 use std::alloc::Global;
@@ -20,6 +20,8 @@ use std::io::Read;
 /// What a line of the log became.
 #[derive(Clone, Copy, Debug, PartialEq, Eq)]
 pub enum LineOutcome {
+    /// The heading of version 2, which is no statement.
+    Heading,
     /// The next place of the log.
     Accepted,
     /// A line with this fault, which is no statement.
@@ -36,7 +38,7 @@ impl LineOutcome {
     {
         match self {
             LineOutcome::Accepted => 1,
-            LineOutcome::Faulty(_) | LineOutcome::Refused(_) => 0,
+            LineOutcome::Heading | LineOutcome::Faulty(_) | LineOutcome::Refused(_) => 0,
         }
     }
 }
@@ -127,14 +129,23 @@ fn take_read(
     }
 }
 
-/// Reads a line, takes its statement into the log if it is one that is not refused, and says what the line became. After
-/// an error the log is as it was.
-fn take_line(alloc: Global, log: &mut Log, line: &[u8]) -> Result<LineOutcome, EngineFault>
-    ensures line { IfOk result (λ line'. (reading : ParsedLine) × (ReadsAs line.now reading
+/// Reads a line of the log's version, takes its statement into the log if it is one that is not refused, and says what the line became. The
+/// first line may be the heading of version 2, which sets the log's version. After an error the log is as it was.
+fn take_line(
+    alloc: Global,
+    log: &mut Log,
+    line: &[u8],
+    is_first: bool,
+) -> Result<LineOutcome, EngineFault>
+    ensures line { IfOk result (λ line'. (reading : ParsedLine) × (ReadsAs is_first log.old.names.version line.now reading
         × ((line' ≡ line_outcome log.old.names reading) × (log.new ≡ with_reading log.old reading)))) }
     ensures err { IfErr result (λ f. f ≡ EngineFault.NoMemory) }
 {
-    let found = parse_line(alloc, line);
+    if is_first && is_heading_line(line) {
+        log.set_version(Version::Two);
+        return Ok(LineOutcome::Heading);
+    }
+    let found = parse_line_in(alloc, log.catalog().version(), line);
     let line = take_read(log, found)?;
     Ok(line)
 }
@@ -156,7 +167,8 @@ fn collect_all<R: Read>(
     ensures alone { IfErr result (λ f. f ≢ EngineFault.Spawn) }
 {
     'lines: while reading.next_line(reader)? {
-        let line = take_line(alloc, &mut collected.log, reading.line())?;
+        let is_first = collected.lines.is_empty();
+        let line = take_line(alloc, &mut collected.log, reading.line(), is_first)?;
         collected.lines.push(line)?;
     }
     Ok(())

@@ -2,13 +2,14 @@
 //!
 //! `serial_text` reads a text to its end, runs it by `model::serial` and writes its report; it keeps all statements.
 //! After a fault, which comes only if the reader or the writer failed or memory ran out, a beginning of the report was
-//! written. `LineOutcome` says what a line became, a statement, a fault or a refusal. `arguments` gives the words with which
-//! a program was started.
+//! written. `LineOutcome` says what a line became: the heading of version 2, a statement, a fault or a refusal. `arguments`
+//! gives the words with which a program was started.
 #![tactic(auto)]
 
 mod collecting;
 mod command_line;
 mod fault;
+mod grantees;
 mod pending;
 mod report_cursor;
 mod serial_run;

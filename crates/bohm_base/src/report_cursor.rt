@@ -5,17 +5,20 @@ ghost use Rattle.model_base.specs.Outcomes.{outcome};
 
 use crate::collecting::LineOutcome;
 use crate::fault::EngineFault;
+use crate::grantees::granted_to;
 use crate::pending::put_out;
 use line_io::Counted;
-use model_base::{Outcome, Place};
-use report::{put_fault, put_outcome, put_refused};
+use log_text::Version;
+use model_base::{Grantee, Outcome, Place};
+use report::{put_fault, put_outcome, put_refused, records_of};
 use sequencer::Log;
-use std::alloc::AllocError;
+use std::alloc::{AllocError, Global};
 use std::io::Write;
 
 /// Where the report of a log, by the outcomes of its places, is: at a line of this number, before which there are this many places.
 #[derive(Clone, Copy)]
 pub(crate) struct ReportCursor<'a> {
+    pub(crate) alloc: Global,
     pub(crate) log: &'a Log,
     pub(crate) outcomes: &'a [Outcome],
     pub(crate) number: u64,
@@ -24,17 +27,30 @@ pub(crate) struct ReportCursor<'a> {
 }
 
 impl ReportCursor<'_> {
-    ghost use Rattle.std.specs.Prelude.{◌≢◌, ◌++◌, IfErr, OnErr, OnOk};
+    ghost use Rattle.std.specs.Prelude.{◌≢◌, ◌++◌, IfErr, IfOk, OnErr, OnOk, Some};
     ghost use Rattle.line_io.specs.Known.{HasBegun, MovesOut};
     ghost use Rattle.report.specs.Report.{place_text};
+    ghost use Rattle.report.specs.Text.{HaveGrantees, records_listed};
     ghost use Rattle.bohm_base.specs.Collecting.{MayLackRoom};
     ghost use Rattle.bohm_base.specs.Cursors.{text_at};
     ghost use Rattle.bohm_base.specs.Faults.{write_errors};
 
+    /// To whom the records were granted that the outcome of the place lists. In version 1 the report doesn't name them.
+    fn grantees(&self, found: &Outcome) -> Result<Vec<Grantee>, AllocError>
+        requires { outcome self.now.log.now.statements self.now.place ≡ Some found.now }
+        ensures { IfOk result (λ grantees.
+            HaveGrantees self.now.log.now.names.version self.now.log.now.statements (records_listed found.now) grantees.items) }
+    {
+        match self.log.catalog().version() {
+            Version::One => Ok(Vec::new(self.alloc)),
+            Version::Two => granted_to(self.alloc, self.log.statements(), records_of(found)),
+        }
+    }
+
     /// Appends the report's line for the place to the text, or nothing for a place that the log does not have.
     fn put_place(&self, text: &mut Vec<u8>) -> Result<(), AllocError>
         ensures { OnOk result (text.new.items
-            ≡ text.old.items ++ place_text self.now.log.now.statements self.now.log.now.names.tables self.now.place) }
+            ≡ text.old.items ++ place_text self.now.log.now.statements self.now.log.now.names self.now.place) }
     {
         let index = self.place as usize;
         let Some(statement) = self.log.statements().get(index) else {
@@ -43,8 +59,16 @@ impl ReportCursor<'_> {
         let Some(outcome) = self.outcomes.get(index) else {
             return Ok(());
         };
-        let tables = self.log.catalog().tables();
-        put_outcome(text, tables, self.place, &statement.form, outcome)
+        let grantees = self.grantees(outcome)?;
+        let catalog = self.log.catalog();
+        put_outcome(
+            text,
+            catalog,
+            self.place,
+            &statement.form,
+            outcome,
+            &grantees,
+        )
     }
 
     /// Appends the report's line for the line to the text. An accepted line has the place.
@@ -53,6 +77,7 @@ impl ReportCursor<'_> {
         ensures want { OnErr result (MayLackRoom self.now.number text.old line) }
     {
         match line {
+            LineOutcome::Heading => Ok(()),
             LineOutcome::Accepted => self.put_place(text),
             LineOutcome::Faulty(fault) => put_fault(text, self.number, fault),
             LineOutcome::Refused(refused) => put_refused(text, self.number, refused),

@@ -41,6 +41,7 @@ fn report_lines<W: Write>(
     let mut place = 0;
     for (index, line) in collected.lines.iter().enumerate() {
         let cursor = ReportCursor {
+            alloc,
             log: &collected.log,
             outcomes,
             number: index as u64 + 1,
@@ -105,7 +106,7 @@ fn run_log<W: Write>(
     write_report(alloc, writer, collected, &outcomes, pending)
 }
 
-/// Reads a log to its end, runs it by `model::serial`, and writes its report: one line for each line.
+/// Reads a log to its end, runs it by `model::serial`, and writes its report: one line for each line but the heading of version 2.
 ///
 /// The log's statements, their outcomes and the rows are kept in memory, and two bytes or so for each line. `NoMemory` comes where a growth
 /// was refused, `Read` where the reader failed, `Write` where the writer failed, or took no byte of a piece that wasn't empty. After a

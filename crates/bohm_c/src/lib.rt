@@ -296,7 +296,7 @@ pub extern "C" fn bohm_explain(
     status
 }
 
-/// How many lines were reported. 0 where the handle is closed.
+/// How many lines were reported, with a heading, which has no line of the report. 0 where the handle is closed.
 #[unsafe(no_mangle)]
 pub extern "C" fn bohm_lines(alloc: Global, handle: &mut Handle) -> u64
     ensures same { handle.new.run ≡ handle.old.run }

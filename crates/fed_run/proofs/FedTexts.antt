@@ -1,7 +1,8 @@
 -- A run that is fed piece by piece.
 use Rattle.std.proofs.Common.{◌≡◌, ◌≤◌, ◌<◌, ◌+◌, ◌++◌, ℕ, true, false, List, [], ◌∷◌, Some, length, take, drop, refl, ap, sym, ◌∙◌, subst, arith, append_assoc}
 use Rattle.std.proofs.lemmas.List.{append-nil, length-append, length-take-le, take_all}
-use Rattle.log_text.proofs.Total.{total}
+use Rattle.std.specs.Prelude.{◌==◌}
+use Rattle.log_text.proofs.Total.{total_in}
 use Rattle.line_io.specs.Lines.{HasLine, first_line, lines_of, other_lines}
 use Rattle.sequencer.specs.Log.{Accepted, empty_log}
 use Rattle.sequencer.specs.Whole.{IsWhole}
@@ -14,7 +15,7 @@ use Rattle.batched_text.specs.Places.{places_in}
 use Rattle.batched_text.proofs.Ends.{read_before, read_start}
 use Rattle.batched_text.proofs.Sofar.{batched_reported, batched_taken, begun_batched}
 use Rattle.fed_run.specs.Progress.{Progress, TakesLine}
-use Rattle.fed_run.specs.Stands.{BeginsReport, MayCome, IsFed, unsent}
+use Rattle.fed_run.specs.Stands.{BeginsReport, MayCome, IsFed, next_line, unsent}
 use Rattle.fed_run.specs.declared.fed.FedRun.{FedRun}
 use Rattle.fed_run.proofs.Lines.{cut_at, first_through, kept_line, no_line, no_line-append, nothing_begun, other_through}
 
@@ -31,7 +32,7 @@ to_batched i j pending log done waiting next is = ([], (refl, is))
 -- what was reported begins the report of the whole
 pub begins : (i j pending : List ℕ) (log : Accepted) (done : ℕ) (waiting : List LineOutcome) (next : ℕ) → IsBatched i j pending log done waiting next → BeginsReport i pending
 begins i j pending log done waiting next is =
-    let begun = begun_batched total (Some i) (Some j) (Some []) (Some []) pending log done waiting next (to_batched i j pending log done waiting next is) in
+    let begun = begun_batched total_in (Some i) (Some j) (Some []) (Some []) pending log done waiting next (to_batched i j pending log done waiting next is) in
     let moved = begun.1.1.1 in
     let rest : List ℕ = begun.1.1.0 in
     let whole : pending ++ rest ≡ begun.0 = ap (λ (front : List ℕ). front ++ (pending ++ rest)) moved.1 ∙ moved.2 in
@@ -50,7 +51,7 @@ module _ (i j : List ℕ) where
 
 -- a line was taken, and waits
 line_taken : (i j k pending line : List ℕ) (reading : ParsedLine) (old new : Progress) (next : ℕ)
-    → line ≡ take 4097 (first_line j) → k ≡ other_lines j → 0 < length j → ReadsAs line reading → TakesLine reading old new → IsWhole new.run.log
+    → line ≡ take 4097 (first_line j) → k ≡ other_lines j → 0 < length j → ReadsAs (next == 1) old.run.log.names.version line reading → TakesLine reading old new → IsWhole new.run.log
     → IsBatched i j pending old.run.log old.reported old.waiting next → IsBatched i k pending new.run.log new.reported new.waiting (next + 1)
 line_taken i j k pending line reading old new next first others some reads takes whole is =
     let log : Accepted = old.run.log in
@@ -160,7 +161,7 @@ module _ (old new : FedRun) (begun : new.begun.items ≡ []) (ended : new.is_end
       → ((future : List ℕ) → MayCome new future → MayCome old (piece ++ future))
       → ((future : List ℕ) → MayCome new future → (line ≡ take 4097 (first_line (stands.tail ++ (piece ++ future)))) × (other_lines (stands.tail ++ (piece ++ future)) ≡ future)
       × (0 < length (stands.tail ++ (piece ++ future))))
-      → (reading : ParsedLine) → ReadsAs line reading → TakesLine reading old.order new.order → IsFed new (input ++ piece) written
+      → (reading : ParsedLine) → ReadsAs (next_line old == 1) old.order.run.log.names.version line reading → TakesLine reading old.order new.order → IsFed new (input ++ piece) written
   stands_after input written piece line stands come cut reading reads takes = record {
     tail = [];
     kept = begun;
@@ -181,7 +182,7 @@ module _ (old new : FedRun) (begun : new.begun.items ≡ []) (ended : new.is_end
   -- an LF among the bytes ends it
   pub stands_line : (bytes end : List ℕ) (count : ℕ) → old.is_ended ≡ false → 0 < count → count ≤ length bytes
       → other_lines (bytes ++ 10 ∷ []) ≡ drop count bytes ++ 10 ∷ [] → end ≡ take 4097 (first_line (bytes ++ 10 ∷ []))
-      → ((line : List ℕ) → old.begun.items ≡ take 4097 line → (reading : ParsedLine) × (ReadsAs (take 4097 (line ++ end)) reading × TakesLine reading old.order new.order))
+      → ((line : List ℕ) → old.begun.items ≡ take 4097 line → (reading : ParsedLine) × (ReadsAs (next_line old == 1) old.order.run.log.names.version (take 4097 (line ++ end)) reading × TakesLine reading old.order new.order))
       → (input written : List ℕ) → IsFed old input written → IsFed new (input ++ take count bytes) written
   stands_line bytes end count going some less others is took input written stands =
       let read = took stands.tail stands.kept in
@@ -200,7 +201,7 @@ module _ (old new : FedRun) (begun : new.begun.items ≡ []) (ended : new.is_end
 
   -- the end of the text ends it
   pub stands_last : old.is_ended ≡ true → (old.begun.items ≡ [] → ⊥)
-      → ((line : List ℕ) → old.begun.items ≡ take 4097 line → (reading : ParsedLine) × (ReadsAs (take 4097 (line ++ [])) reading × TakesLine reading old.order new.order))
+      → ((line : List ℕ) → old.begun.items ≡ take 4097 line → (reading : ParsedLine) × (ReadsAs (next_line old == 1) old.order.run.log.names.version (take 4097 (line ++ [])) reading × TakesLine reading old.order new.order))
       → (input written : List ℕ) → IsFed old input written → IsFed new input written
   stands_last told some took input written stands =
       let read = took stands.tail stands.kept in

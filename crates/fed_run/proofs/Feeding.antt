@@ -1,7 +1,6 @@
 -- Bytes that are taken and given, one step after another.
-use Rattle.std.proofs.Common.{true, ◌≡◌, ◌≤◌, ◌<◌, ◌+◌, ◌-◌, ◌++◌, ℕ, List, [], ◌∷◌, length, take, drop, refl, ap, sym, ◌∙◌, subst, arith, append_assoc, take-add, inl, inr}
-use Rattle.std.specs.Prelude.{Err, IfErr, OnErr, OnOk, Ok, Result}
-use Rattle.std.proofs.lemmas.Bool.{cases_lt}
+use Rattle.std.proofs.Common.{true, ◌≡◌, ◌≤◌, ◌<◌, ◌+◌, ◌-◌, ◌++◌, ℕ, List, [], length, take, drop, refl, ap, sym, ◌∙◌, subst, arith, append_assoc, take-add}
+use Rattle.std.specs.Prelude.{Err, OnErr, OnOk, Ok, Result}
 use Rattle.report.specs.Report.{IsReport}
 use Rattle.std.proofs.lemmas.List.{append-nil, length-append, length-drop, length-take-le, take-append-drop}
 use Rattle.std.proofs.lemmas.Slice.{take-put_mid}

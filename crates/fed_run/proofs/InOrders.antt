@@ -6,7 +6,7 @@ use Rattle.sequencer.specs.Catalog.{Names}
 use Rattle.sequencer.specs.Log.{Accepted}
 use Rattle.sequencer.specs.Refusal.{refusal}
 use Rattle.sequencer.specs.declared.refused.Refused.{Refused}
-use Rattle.report.specs.Report.{ParsedLine, accepted, faulty, read, statement_if}
+use Rattle.report.specs.Report.{ParsedLine, accepted, faulty, the_heading, read, statement_if}
 use Rattle.bohm_base.specs.Collecting.{line_outcome, outcome_unless, places_of, with_reading}
 use Rattle.bohm_base.specs.declared.collecting.LineOutcome.{LineOutcome}
 use Rattle.batched_text.specs.Places.{places_in}
@@ -20,6 +20,7 @@ places-if names sentence None = refl
 places-if names sentence (Some refused) = refl
 
 places_are : (names : Names) (reading : ParsedLine) → places_of (line_outcome names reading) ≡ length (accepted names reading)
+places_are names the_heading = refl
 places_are names (read sentence) = places-if names sentence (refusal names sentence)
 places_are names (faulty fault) = refl
 

@@ -11,6 +11,10 @@ use Rattle.fed_run.specs.declared.fed.FedRun.{FedRun}
 abbrev pub unsent : FedRun → List ℕ
 unsent run = drop run.sent run.text.items
 
+-- the number of the line that comes next
+abbrev pub next_line : FedRun → ℕ
+next_line run = run.lines + 1 + length run.order.waiting
+
 -- what may still come: nothing once the text was ended
 abbrev pub MayCome : FedRun → List ℕ → Type 0
 MayCome run future = run.is_ended ≡ true → future ≡ []
@@ -24,7 +28,7 @@ pub record IsFed (run : FedRun) (input written : List ℕ) : Type 0 where
   pub unended : HasLine tail → ⊥
   pub reached : (future : List ℕ) → MayCome run future
       → IsBatched (input ++ future) (tail ++ future) (written ++ unsent run) run.order.run.log run.order.reported run.order.waiting
-      (run.lines + 1 + length run.order.waiting)
+      (next_line run)
 
 -- bytes of the report were given: those of the room that are made are now this many
 pub record Gives (old new : FedRun) (out_old out_new : List ℕ) (made_old made_new : ℕ) : Type 0 where

@@ -1,6 +1,6 @@
 //! A run that is fed piece by piece.
 
-ghost use Rattle.std.specs.Prelude.{◌≡◌, ◌≤◌, ◌<◌, ◌+◌, ◌++◌, ◌∷◌, ◌^◌, ◌↔◌, ℕ, [], List, Err, IfErr, IfOk, Ok, OnErr, OnOk, false, true, drop, length, take};
+ghost use Rattle.std.specs.Prelude.{◌≡◌, ◌≤◌, ◌<◌, ◌+◌, ◌++◌, ◌∷◌, ◌^◌, ◌↔◌, ◌==◌, ℕ, [], List, Err, IfErr, IfOk, Ok, OnErr, OnOk, false, true, drop, length, take};
 ghost use Rattle.line_io.specs.declared.limits.TheConstants.{KEPT_BYTES};
 ghost use Rattle.report.specs.Report.{IsReport, ParsedLine};
 ghost use Rattle.sequencer.specs.Whole.{IsWhole};
@@ -45,7 +45,7 @@ pub struct FedRun {
 
 impl FedRun {
     ghost use Rattle.fed_run.specs.Progress.{TakesLine};
-    ghost use Rattle.fed_run.specs.Stands.{TextExplains, Feeds, Gives, IsUnfed, IsGivenOut, IsFed, TakesBytes, unsent};
+    ghost use Rattle.fed_run.specs.Stands.{TextExplains, Feeds, Gives, IsUnfed, IsGivenOut, IsFed, TakesBytes, next_line, unsent};
 
     /// Before the first byte. It doesn't allocate.
     pub fn new(alloc: Global) -> FedRun
@@ -99,7 +99,7 @@ impl FedRun {
         self.order.put_explained(alloc, place, text)
     }
 
-    /// How many lines were reported.
+    /// How many lines were reported, with a heading, which has no line of the report.
     pub fn lines(&self) -> u64
         ensures { result ≡ self.now.lines }
     {
@@ -212,6 +212,13 @@ impl FedRun {
         Ok(())
     }
 
+    /// Whether the line that comes next is the first one.
+    fn is_first(&self) -> bool
+        ensures { result ≡ (next_line self.now == 1) }
+    {
+        self.lines == 0 && self.order.waiting() == 0
+    }
+
     /// Takes the line that has begun, if one has, and these bytes, which end the line.
     fn take_line<'a>(
         &mut self,
@@ -221,7 +228,8 @@ impl FedRun {
     ) -> Result<(), FeedFault>
         requires short { length end.now ≤ KEPT_BYTES }
         ensures ok { OnOk result ((line : List ℕ) → self.old.begun.items ≡ take KEPT_BYTES line
-            → (reading : ParsedLine) × (ReadsAs (take KEPT_BYTES (line ++ end.now)) reading
+            → (reading : ParsedLine)
+            × (ReadsAs (next_line self.old == 1) self.old.order.run.log.names.version (take KEPT_BYTES (line ++ end.now)) reading
             × TakesLine reading self.old.order self.new.order)) }
         ensures whole { OnOk result (IsWhole self.new.order.run.log) }
         ensures begun { OnOk result (self.new.begun.items ≡ []) }
@@ -234,13 +242,14 @@ impl FedRun {
         ensures ended { self.new.is_ended ≡ self.old.is_ended }
         ensures keep { self.new.order.keep ≡ self.old.order.keep }
     {
+        let is_first = self.is_first();
         if self.begun.is_empty() {
-            self.order.take(end, raw)?;
+            self.order.take(end, raw, is_first)?;
             return Ok(());
         }
         let before = self.begun.len();
         keep_more(&mut self.begun, end)?;
-        match self.order.take_alone(alloc, &self.begun) {
+        match self.order.take_alone(alloc, &self.begun, is_first) {
             Ok(()) => {
                 self.begun.clear();
                 Ok(())

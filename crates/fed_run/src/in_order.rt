@@ -14,13 +14,13 @@ ghost use Rattle.batched_text.specs.Places.{places_in};
 ghost use Rattle.sequencer.specs.Log.{empty_log};
 ghost use Rattle.sequencer.specs.Whole.{IsWhole};
 
-use crate::taken_lines::take_read;
+use crate::taken_lines::take_line;
 use audit_text::put_explanation;
 use batched_text::{put_lines, put_place};
 use bohm_base::LineOutcome;
 use engine::Engine;
-use explain::{ExplainFault, explain};
-use log_text::{LineBuffers, read_into};
+use explain::{ExplainFault, explain, explanations_name_earlier_grants};
+use log_text::LineBuffers;
 use model_base::Place;
 use std::alloc::{AllocError, Global};
 use std::marker::Model;
@@ -112,36 +112,43 @@ impl InOrder {
         self.engine.log().len()
     }
 
-    /// Reads a line, and takes its statement into the log if it is one that is not refused. Then the line waits. What the line reads as
-    /// stays in the room that is lent. On `Err`, out of memory, no line was taken.
+    /// Reads a line, and takes its statement into the log if it is one that is not refused. The log's first line may be the heading of a
+    /// version. Then the line waits. What the line reads as stays in the room that is lent. On `Err`, out of memory, no line was taken.
     pub(crate) fn take<'a>(
         &mut self,
         line: &'a [u8],
         raw: &mut LineBuffers<'a>,
+        is_first: bool,
     ) -> Result<(), AllocError>
-        ensures ok { OnOk result ((reading : ParsedLine) × (ReadsAs line.now reading × TakesLine reading self.old self.new)) }
+        ensures ok { OnOk result ((reading : ParsedLine)
+            × (ReadsAs is_first self.old.run.log.names.version line.now reading × TakesLine reading self.old self.new)) }
         ensures whole { IsWhole self.new.run.log }
         ensures err { OnErr result (self.new ≡ self.old) }
         ensures keep { self.new.keep ≡ self.old.keep }
     {
         let _before = self.engine.log().dropped();
         self.waiting.reserve(1)?;
-        let found = read_into(line, raw);
-        let taken = take_read(&mut self.engine, found, raw);
+        let taken = take_line(&mut self.engine, line, raw, is_first);
         let _after = self.engine.log().dropped();
         self.waiting.push_reserved(taken?);
         Ok(())
     }
 
     /// Takes a line, as `take`, with room of its own: it may lie elsewhere than the lines after it, so that they can't share one room.
-    pub(crate) fn take_alone(&mut self, alloc: Global, line: &[u8]) -> Result<(), AllocError>
-        ensures ok { OnOk result ((reading : ParsedLine) × (ReadsAs line.now reading × TakesLine reading self.old self.new)) }
+    pub(crate) fn take_alone(
+        &mut self,
+        alloc: Global,
+        line: &[u8],
+        is_first: bool,
+    ) -> Result<(), AllocError>
+        ensures ok { OnOk result ((reading : ParsedLine)
+            × (ReadsAs is_first self.old.run.log.names.version line.now reading × TakesLine reading self.old self.new)) }
         ensures whole { IsWhole self.new.run.log }
         ensures err { OnErr result (self.new ≡ self.old) }
         ensures keep { self.new.keep ≡ self.old.keep }
     {
         let mut raw = LineBuffers::new(alloc);
-        self.take(line, &mut raw)
+        self.take(line, &mut raw, is_first)
     }
 
     /// Runs the places of the lines that wait, and appends the report's lines for them, of which the first has this number. Then no line
@@ -165,7 +172,14 @@ impl InOrder {
         let _finished = self.engine.finished();
         let end = self.engine.log().len();
         self.engine.run_alone(alloc, end)?;
-        put_lines(text, &self.engine, number, self.reported, &self.waiting)?;
+        put_lines(
+            alloc,
+            text,
+            &self.engine,
+            number,
+            self.reported,
+            &self.waiting,
+        )?;
         self.waiting.clear();
         self.reported = end;
         self.trim();
@@ -210,8 +224,8 @@ impl InOrder {
         text: &mut Vec<u8>,
     ) -> Result<(), ExplainFault>
         ensures told { OnOk result ((lines : List Shows) × (explained self.now.run.log.statements place ≡ Some lines)
-            × (text.new.items ≡ text.old.items ++ place_text self.now.run.log.statements self.now.run.log.names.tables place
-            ++ explanation_text self.now.run.log.names.tables lines)) }
+            × (text.new.items ≡ text.old.items ++ place_text self.now.run.log.statements self.now.run.log.names place
+            ++ explanation_text self.now.run.log.statements self.now.run.log.names lines)) }
         ensures none { (result ≡ Err ExplainFault.NoSuchPlace) ↔ (self.now.reported ≤ place) }
         ensures forgotten { result ≡ Err ExplainFault.Forgotten → place + self.now.keep < self.now.reported }
         ensures finished { result ≡ Err ExplainFault.NotFinished → ⊥ }
@@ -219,9 +233,10 @@ impl InOrder {
         if place >= self.reported {
             return Err(ExplainFault::NoSuchPlace);
         }
+        explanations_name_earlier_grants();
         let found = explain(alloc, &self.engine, place)?;
-        put_place(text, &self.engine, place)?;
-        put_explanation(text, self.engine.log().catalog().tables(), &found)?;
+        put_place(alloc, text, &self.engine, place)?;
+        put_explanation(alloc, text, &self.engine, &found)?;
         Ok(())
     }
 }

@@ -1,3 +1,4 @@
 pub mod Readings
 pub mod ReportLemmas
 pub mod Denials
+pub mod Spelled

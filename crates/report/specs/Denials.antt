@@ -12,15 +12,15 @@ use Rattle.sequencer.specs.Refusal.{refusal}
 use Rattle.report.specs.Text.{cause_text, need_text}
 use Rattle.report.specs.Report.{ParsedLine, read, line_text, log_of, names_after, names_with}
 
--- the report's lines, each by itself, from a line of this number on
-abbrev pub lines_told : List Statement → List (List ℕ) → ℕ → Names → List ParsedLine → List (List ℕ)
-lines_told log tables number names [] = []
-lines_told log tables number names (reading ∷ readings) =
-    line_text log tables number names reading ∷ lines_told log tables (number + 1) (names_with names reading) readings
+-- the report's lines, each by itself, from a line of this number on; the heading's is empty
+abbrev pub lines_told : List Statement → Names → ℕ → Names → List ParsedLine → List (List ℕ)
+lines_told log all number names [] = []
+lines_told log all number names (reading ∷ readings) =
+    line_text log all number names reading ∷ lines_told log all (number + 1) (names_with names reading) readings
 
 -- the report's lines of lines that are read so
 abbrev pub report_lines : List ParsedLine → List (List ℕ)
-report_lines readings = lines_told (log_of no_names readings) (names_after no_names readings).tables 1 no_names readings
+report_lines readings = lines_told (log_of no_names readings) (names_after no_names readings) 1 no_names readings
 
 -- the names before the line of this index
 abbrev pub names_ahead : List ParsedLine → ℕ → Names

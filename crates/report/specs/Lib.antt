@@ -1,3 +1,4 @@
 pub mod Text
+pub mod Records
 pub mod Report
 pub mod Denials

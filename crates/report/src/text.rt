@@ -1,13 +1,18 @@
 //! How the report spells what becomes of a line.
 
-ghost use Rattle.std.specs.Prelude.{◌≡◌, ◌<◌, ◌≤◌, ◌++◌, List, length, codes, OnErr, OnOk, vec_capacity};
+ghost use Rattle.std.specs.Prelude.{◌≡◌, ◌<◌, ◌≤◌, ◌∷◌, ◌++◌, List, Some, length, codes, OnErr, OnOk, vec_capacity};
 ghost use Rattle.std.specs.Fmt.{decimal, signed_decimal};
-ghost use Rattle.report.specs.Text.{IsNamed, LacksRoom, cause_text, deed_text, done_text, ending_text, fault_word, need_text, numbers_text, outcome_text, reason_word, records_text, refused_text, refused_word};
+ghost use Rattle.model_base.specs.Ranks.{place_of_rank};
+ghost use Rattle.model_base.specs.RecordNames.{kind_of_rank};
+ghost use Rattle.model_base.specs.declared.statement.Statement.{Statement};
+ghost use Rattle.log_text.specs.Statement.{kind_word};
+ghost use Rattle.report.specs.Text.{HaveGrantees, IsNamed, LacksRoom, cause_text, deed_text, done_text, ending_text, fault_word, grantee_name, need_text, numbers_text, outcome_text, reason_word, records_listed, records_revoked, records_text, refused_text, refused_word, spelled_record};
+ghost use Rattle.report.specs.Records.{places_text, spelled_records};
 
 use itoa::Buffer;
-use log_text::{LineFault, kind_word};
-use model_base::{Cause, DeedDone, Form, Need, Outcome, Place, Reason, RecordName};
-use sequencer::{NameTable, Refused};
+use log_text::{LineFault, Version, kind_word};
+use model_base::{Cause, DeedDone, Form, Grantee, Need, Outcome, Place, Reason, RecordName};
+use sequencer::{Catalog, NameTable, Refused};
 use std::alloc::AllocError;
 
 /// The word of a line's fault. Out of memory is no line's fault, and has none.
@@ -24,6 +29,8 @@ fn fault_word(fault: LineFault) -> &'static str
         LineFault::TooManySteps => "too-many-steps",
         LineFault::TooManyAccesses => "too-many-accesses",
         LineFault::BadRegister => "bad-register",
+        LineFault::TooManyGrantees => "too-many-grantees",
+        LineFault::DuplicateGrantee => "duplicate-grantee",
         LineFault::NoMemory => "",
     }
 }
@@ -87,9 +94,9 @@ fn put_numbers(text: &mut Vec<u8>, numbers: &[i64]) -> Result<(), AllocError>
     Ok(())
 }
 
-/// Appends the place of each record after a space. After an error some of them may be to the text.
-pub fn put_records(text: &mut Vec<u8>, names: &[RecordName]) -> Result<(), AllocError>
-    ensures { OnOk result (text.new.items ≡ text.old.items ++ records_text names.now) }
+/// Appends the place of each record after a space.
+fn put_places(text: &mut Vec<u8>, names: &[RecordName]) -> Result<(), AllocError>
+    ensures { OnOk result (text.new.items ≡ text.old.items ++ places_text names.now) }
 {
     for name in names {
         text.extend_from_slice(b" ")?;
@@ -98,17 +105,113 @@ pub fn put_records(text: &mut Vec<u8>, names: &[RecordName]) -> Result<(), Alloc
     Ok(())
 }
 
+/// Appends the name of a grantee, or nothing for a user who has none.
+fn put_grantee(text: &mut Vec<u8>, users: &NameTable, grantee: &Grantee) -> Result<(), AllocError>
+    ensures { OnOk result (text.new.items ≡ text.old.items ++ grantee_name users.now (Some grantee.now)) }
+{
+    match grantee {
+        Grantee::Public => text.extend_from_slice(b"PUBLIC"),
+        Grantee::User(user) => match users.get(user.0) {
+            Some(name) => text.extend_from_slice(name.as_bytes()),
+            None => Ok(()),
+        },
+    }
+}
+
+/// Appends the place and the kind of a record after a space.
+fn put_place_and_kind(text: &mut Vec<u8>, name: RecordName) -> Result<(), AllocError>
+    ensures { OnOk result (text.new.items
+        ≡ text.old.items ++ (32 ∷ (decimal (place_of_rank name) ++ codes ":" ++ kind_word (kind_of_rank name)))) }
+{
+    text.extend_from_slice(b" ")?;
+    put_decimal(text, name.place)?;
+    text.extend_from_slice(b":")?;
+    text.extend_from_slice(kind_word(name.kind).as_bytes())
+}
+
+/// Appends a record with its grantee after a space.
+fn put_record(
+    text: &mut Vec<u8>,
+    users: &NameTable,
+    name: RecordName,
+    grantee: &Grantee,
+) -> Result<(), AllocError>
+    ensures { OnOk result (text.new.items ≡ text.old.items ++ (32 ∷ spelled_record users.now name (Some grantee.now))) }
+{
+    put_place_and_kind(text, name)?;
+    text.extend_from_slice(b":")?;
+    put_grantee(text, users, grantee)
+}
+
+/// Appends each record with its grantee after a space, as long as there are both.
+fn put_spelled(
+    text: &mut Vec<u8>,
+    users: &NameTable,
+    names: &[RecordName],
+    grantees: &[Grantee],
+) -> Result<(), AllocError>
+    ensures { OnOk result (text.new.items ≡ text.old.items ++ spelled_records users.now names.now grantees.now) }
+{
+    for (index, name) in names.iter().enumerate() {
+        let Some(grantee) = grantees.get(index) else {
+            return Ok(());
+        };
+        put_record(text, users, *name, grantee)?;
+    }
+    Ok(())
+}
+
+/// Appends each record after a space, in version 2 with its kind and its grantee. In version 1 no grantees are wanted. After an error some of
+/// the records may be to the text.
+pub fn put_records(
+    text: &mut Vec<u8>,
+    catalog: &Catalog,
+    names: &[RecordName],
+    grantees: &[Grantee],
+) -> Result<(), AllocError>
+    ensures { OnOk result ((log : List Statement) → HaveGrantees catalog.now.version log names.now grantees.now
+        → text.new.items ≡ text.old.items ++ records_text log catalog.now names.now) }
+{
+    match catalog.version() {
+        Version::One => put_places(text, names),
+        Version::Two => put_spelled(text, catalog.users(), names, grantees),
+    }
+}
+
+/// The records that an outcome lists.
+pub fn records_of(outcome: &Outcome) -> &[RecordName]
+    ensures { result.now ≡ records_listed outcome.now }
+{
+    match outcome {
+        Outcome::Done {
+            deed: DeedDone::Revoked(names),
+            ..
+        } => names.as_slice(),
+        Outcome::Created
+        | Outcome::Done { .. }
+        | Outcome::Denied { .. }
+        | Outcome::Aborted { .. }
+        | Outcome::Undeclared { .. } => &[],
+    }
+}
+
 /// Writes what the deed of a transaction resulted in.
 #[inline(always)]
-fn put_deed(text: &mut Vec<u8>, deed: &DeedDone) -> Result<(), AllocError>
-    ensures { OnOk result (text.new.items ≡ text.old.items ++ deed_text deed.now) }
+fn put_deed(
+    text: &mut Vec<u8>,
+    catalog: &Catalog,
+    deed: &DeedDone,
+    grantees: &[Grantee],
+) -> Result<(), AllocError>
+    ensures { OnOk result ((log : List Statement) → HaveGrantees catalog.now.version log (records_revoked deed.now) grantees.now
+        → text.new.items ≡ text.old.items ++ deed_text log catalog.now deed.now) }
 {
     match deed {
         DeedDone::None => Ok(()),
         DeedDone::Granted => text.extend_from_slice(b" granted"),
         DeedDone::Revoked(names) => {
             text.extend_from_slice(b" revoked")?;
-            put_records(text, names.as_slice())
+            put_records(text, catalog, names.as_slice(), grantees)
         }
     }
 }
@@ -116,18 +219,21 @@ fn put_deed(text: &mut Vec<u8>, deed: &DeedDone) -> Result<(), AllocError>
 /// Writes the outputs and the deed of a transaction that is done. A deed by itself has no outputs.
 fn put_done(
     text: &mut Vec<u8>,
+    catalog: &Catalog,
     form: &Form,
     outputs: &[i64],
     deed: &DeedDone,
+    grantees: &[Grantee],
 ) -> Result<(), AllocError>
-    ensures { OnOk result (text.new.items ≡ text.old.items ++ done_text form.now outputs.now deed.now) }
+    ensures { OnOk result ((log : List Statement) → HaveGrantees catalog.now.version log (records_revoked deed.now) grantees.now
+        → text.new.items ≡ text.old.items ++ done_text log catalog.now form.now outputs.now deed.now) }
 {
     if let Form::Deed(_) = form {
-        return put_deed(text, deed);
+        return put_deed(text, catalog, deed, grantees);
     }
     text.extend_from_slice(b" done")?;
     put_numbers(text, outputs)?;
-    put_deed(text, deed)
+    put_deed(text, catalog, deed, grantees)
 }
 
 /// Appends a need: its kind and table, and whether it is with the option. After an error a part of it may be to the text.
@@ -185,17 +291,21 @@ fn put_denied(
 /// Writes what comes after a place.
 fn put_ending(
     text: &mut Vec<u8>,
-    tables: &NameTable,
+    catalog: &Catalog,
     form: &Form,
     outcome: &Outcome,
+    grantees: &[Grantee],
 ) -> Result<(), AllocError>
-    requires { IsNamed (length tables.now) outcome.now }
-    ensures { OnOk result (text.new.items ≡ text.old.items ++ ending_text tables.now form.now outcome.now) }
+    requires { IsNamed (length catalog.now.tables) outcome.now }
+    ensures { OnOk result ((log : List Statement) → HaveGrantees catalog.now.version log (records_listed outcome.now) grantees.now
+        → text.new.items ≡ text.old.items ++ ending_text log catalog.now form.now outcome.now) }
 {
     match outcome {
         Outcome::Created => text.extend_from_slice(b" created"),
-        Outcome::Done { outputs, deed } => put_done(text, form, outputs.as_slice(), deed),
-        Outcome::Denied { need, cause } => put_denied(text, tables, need, *cause),
+        Outcome::Done { outputs, deed } => {
+            put_done(text, catalog, form, outputs.as_slice(), deed, grantees)
+        }
+        Outcome::Denied { need, cause } => put_denied(text, catalog.tables(), need, *cause),
         Outcome::Aborted { step, reason } => put_aborted(text, *step, *reason),
         Outcome::Undeclared { step } => {
             text.extend_from_slice(b" undeclared ")?;
@@ -204,20 +314,22 @@ fn put_ending(
     }
 }
 
-/// Writes the report's line for a place.
+/// Writes the report's line for a place, by the grantees of the records that the outcome lists. In version 1 no grantees are wanted.
 #[inline(always)]
 pub fn put_outcome(
     text: &mut Vec<u8>,
-    tables: &NameTable,
+    catalog: &Catalog,
     place: Place,
     form: &Form,
     outcome: &Outcome,
+    grantees: &[Grantee],
 ) -> Result<(), AllocError>
-    requires { IsNamed (length tables.now) outcome.now }
-    ensures { OnOk result (text.new.items ≡ text.old.items ++ outcome_text tables.now place form.now outcome.now) }
+    requires { IsNamed (length catalog.now.tables) outcome.now }
+    ensures { OnOk result ((log : List Statement) → HaveGrantees catalog.now.version log (records_listed outcome.now) grantees.now
+        → text.new.items ≡ text.old.items ++ outcome_text log catalog.now place form.now outcome.now) }
 {
     put_decimal(text, place)?;
-    put_ending(text, tables, form, outcome)?;
+    put_ending(text, catalog, form, outcome, grantees)?;
     text.extend_from_slice(b"\n")
 }
 

@@ -1,4 +1,4 @@
-use Rattle.std.proofs.Common.{arith}
+use Rattle.std.proofs.Common.{arith, sym, ◌∙◌}
 use Rattle.std.specs.Prelude.{Ok}
 use Rattle.sequencer.proofs.Beginnings.{begins_further}
 use Rattle.batched_text.specs.Foretold.{log_names}
@@ -18,6 +18,7 @@ report_one-requires-clause-ahead g c κs within =
     record {
       names = still.names;
       begins = begins_further still.names (log_names c.turns.batching) (log_names c.report_until.new.batching) still.begins c.in_ok-next.ensures.begins;
+      version = still.version ∙ sym c.in_ok-next.ensures.version;
       ahead = still.ahead c.turns.ahead-index c.ahead-item.result (omega arith) (omega (arith, c.turns-test.true, c.turns.auto.lines));
     }
 
@@ -28,5 +29,5 @@ turns-preserved g c =
     let both = runs_then c.args.runner.now.plan c.args.buffered.now c.turns.at c.in_ok-next.next c.turns.batching c.report_until.new.batching c.report_one.new.batching (Ok c.in_ok-at.at) first second in
     record {
       runs = runs_then c.args.runner.now.plan c.args.buffered.now c.args.from c.turns.at c.args.batching.now c.turns.batching c.report_one.new.batching (Ok c.in_ok-at.at) c.turns.invariant.runs both;
-      ahead = still_ahead (log_names c.turns.batching) (log_names c.report_one.new.batching) c.args.buffered.now.bytes.now c.turns.ahead-index c.turns.lines c.report_one.new.ahead c.turns.invariant.ahead both.begins;
+      ahead = still_ahead (log_names c.turns.batching) (log_names c.report_one.new.batching) c.args.buffered.now.bytes.now c.turns.ahead-index c.turns.lines c.report_one.new.ahead c.turns.invariant.ahead both.begins both.version;
     }

@@ -43,5 +43,5 @@ groups-preserved g c =
           (record c.report_early.new.batching { engine = c.give_back.new.engine }) (Ok c.in_ok-at.at) c.groups.invariant.runs second;
       ahead = were_others (log_names c.groups.batching) (log_names (record c.report_early.new.batching { engine = c.give_back.new.engine })) c.args.buffered.now.bytes.now
           (chunks_mut_rest c.groups.group-iterator) c.in-Some.group.now (chunks_mut_rest c.next.new.self)
-          c.in-Some.ensures.steps.1.0 c.groups.invariant.ahead second.begins;
+          c.in-Some.ensures.steps.1.0 c.groups.invariant.ahead second.begins second.version;
     }

@@ -10,7 +10,7 @@ use Rattle.batched_text.proofs.foretold.report_one.Goals as goal
 pub report_full-requires-clause-filling : goal.report_full-requires-clause-filling
 report_full-requires-clause-filling g c κs within =
     let took = rw c.in-Some.is at c.in_ok-count.ensures.ok in
-    filled c.args.runner.now.plan c.args.batching.now c.take_ahead.new.batching took.reading c.requires.ready.room took.takes
+    filled c.args.runner.now.plan c.args.batching.now c.take_ahead.new.batching took.reading c.requires.ready.ready.room took.takes
     (subst IsWhole c.log.ensures.value c.dropped-dropped.ensures.whole)
 
 pub returns-in_err-count : goal.returns-in_err-count

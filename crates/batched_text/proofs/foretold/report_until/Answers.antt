@@ -13,7 +13,7 @@ lines-init g c = runs_none c.args.runner.now.plan c.args.buffered.now c.args.fro
 pub report_full-requires-clause-filling : goal.report_full-requires-clause-filling
 report_full-requires-clause-filling g c κs within =
     let took = rw c.in-Some.is at c.in_ok-count.ensures.ok in
-    filled c.args.runner.now.plan c.lines.batching c.take_next.new.batching took.reading c.lines.invariant.ready.room took.takes
+    filled c.args.runner.now.plan c.lines.batching c.take_next.new.batching took.reading c.lines.invariant.ready.ready.room took.takes
     (subst IsWhole c.log.ensures.value c.dropped-dropped.ensures.whole)
 
 pub returns-in_err-count : goal.returns-in_err-count

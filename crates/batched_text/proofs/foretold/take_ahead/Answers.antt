@@ -1,4 +1,7 @@
-use Rattle.std.proofs.Common.{◌<◌, length, ap, subst, arith}
+use Rattle.std.proofs.Common.{◌<◌, length, ap, sym, subst, arith}
+use Rattle.std.specs.Prelude.{Bool}
+use Rattle.std.proofs.lemmas.Bool.{ne_eqb}
+use Rattle.bohm_base.specs.Collecting.{ReadsAs}
 use Rattle.model_base.specs.declared.limits.TheConstants.{MOST_PLACES}
 use Rattle.read_ahead.specs.Ahead.{line_from}
 use Rattle.report.specs.Report.{faulty, read}
@@ -26,7 +29,8 @@ returns-in_ok-take_known-in-Known-clause-ok c =
       line = line_from c.args.bytes.now c.args.ahead.now.from;
       at = c.requires.ahead.ahead.at;
       reading = read known.0;
-      reads = known.1.1.0;
+      reads = subst (λ (b : Bool). ReadsAs b (log_names c.args.batching.now).version (line_from c.args.bytes.now c.args.ahead.now.from) (read known.0))
+          (sym (ne_eqb c.args.batching.now.number 1 (λ same. omega (arith, same, c.requires.begun)))) known.1.1.0;
       takes = c.in_ok-take_known-in-Known.ensures.ok known.0 (known.1.1.1 place);
     }
 
@@ -35,6 +39,8 @@ returns-in_ok-take_faulty-in-Faulty-clause-ok c = record {
   line = line_from c.args.bytes.now c.args.ahead.now.from;
   at = c.requires.ahead.ahead.at;
   reading = faulty c.in-Faulty.fault;
-  reads = faulty_at (log_names c.args.batching.now) c.args.bytes.now c.args.ahead.now c.in-Faulty.fault c.requires.ahead c.in-Faulty.is;
+  reads = subst (λ (b : Bool). ReadsAs b (log_names c.args.batching.now).version (line_from c.args.bytes.now c.args.ahead.now.from) (faulty c.in-Faulty.fault))
+      (sym (ne_eqb c.args.batching.now.number 1 (λ same. omega (arith, same, c.requires.begun))))
+      (faulty_at (log_names c.args.batching.now) c.args.bytes.now c.args.ahead.now c.in-Faulty.fault c.requires.ahead c.in-Faulty.is);
   takes = c.in_ok-take_faulty-in-Faulty.ensures.ok;
 }

@@ -4,6 +4,7 @@ use Rattle.sequencer.specs.Catalog.{Names}
 use Rattle.sequencer.specs.Foretelling.{Begins}
 use Rattle.sequencer.specs.Log.{Accepted}
 use Rattle.batched_text.specs.Foretold.{log_names}
+use Rattle.batched_text.proofs.LaterNames.{begins_in}
 use Rattle.batched_text.proofs.RunLines.{runs_told}
 use Rattle.batched_text.proofs.lookahead.report_stretch.Goals as goal
 
@@ -15,10 +16,20 @@ returns-in_err-taken-clause-runs g c =
 pub learn-requires : goal.learn-requires
 learn-requires g c =
     let ran = rw (c.replace-before.ensures.value, c.in_ok-taken.was) at c.run_ahead-ran.ensures in
-    let names : c.catalog.result.now ≡ log_names c.run_ahead-ran.result.0.batching = c.catalog.ensures ∙ ap (λ (l : Accepted). l.names) c.log.ensures.value in
-    subst (λ (n : Names). Begins n c.catalog.result.now) (sym c.next_stretch-to.ensures.names)
-    (subst (Begins c.args.lookahead.now.names) (sym names)
-    (begins_further c.args.lookahead.now.names (log_names c.args.batching.now) (log_names c.run_ahead-ran.result.0.batching) c.requires.begins ran.begins))
+    let names : c.catalog-2.result.now ≡ log_names c.run_ahead-ran.result.0.batching = c.catalog-2.ensures ∙ ap (λ (l : Accepted). l.names) c.log-2.ensures.value in
+    subst (λ (n : Names). Begins n c.catalog-2.result.now) (sym (c.next_stretch-to.ensures.names ∙ c.set_version.ensures))
+    (subst (Begins (record c.args.lookahead.now.names { version = c.version-version.result })) (sym names)
+    (begins_in c.args.lookahead.now.names (log_names c.run_ahead-ran.result.0.batching) c.version-version.result
+    (begins_further c.args.lookahead.now.names (log_names c.args.batching.now) (log_names c.run_ahead-ran.result.0.batching) c.requires.begins ran.begins)))
 
 pub returns-clause-runs : goal.returns-clause-runs
 returns-clause-runs g c = rw (c.replace-before.ensures.value, c.in_ok-taken.was) at c.run_ahead-ran.ensures
+
+pub run_ahead-ran-requires-clause-begins : goal.run_ahead-ran-requires-clause-begins
+run_ahead-ran-requires-clause-begins g c κs within =
+    rw c.replace-before.ensures.value
+    (subst (λ (n : Names). Begins n (log_names c.args.batching.now)) (sym (c.next_stretch-to.ensures.names ∙ c.set_version.ensures))
+    (begins_in c.args.lookahead.now.names (log_names c.args.batching.now) c.version-version.result c.requires.begins))
+
+pub run_ahead-ran-requires-clause-ready : goal.run_ahead-ran-requires-clause-ready
+run_ahead-ran-requires-clause-ready g c κs within = rw c.replace-before.ensures.value c.requires.ready

@@ -18,7 +18,7 @@ lines-preserved g c =
     let given = rw c.if-branch.true at c.in_ok-next_line.ensures.given in
     let took = c.in_ok-take_quietly.ensures in
     record {
-      taken = taken_step _ _ _ _ _ (found_line c.next_line.new.self) c.lines.invariant.taken (rw c.if-branch.true at c.in_ok-next_line.ensures.line)
+      taken = taken_step c.lines.is_first _ _ _ _ _ (found_line c.next_line.new.self) c.lines.invariant.taken (rw c.if-branch.true at c.in_ok-next_line.ensures.line)
           took.0 (rw c.line.ensures at took.1.0) (ap (λ (run : Run). run.log) took.1.1);
       none = ap (λ (run : Run). finished run) took.1.1 ∙ c.lines.invariant.none;
       kept = ap (λ (run : Run). run.dropped) took.1.1 ∙ c.lines.invariant.kept;
@@ -27,4 +27,4 @@ lines-preserved g c =
     }
 
 pub returns-clause-log : goal.returns-clause-log
-returns-clause-log g c = taken_end _ _ _ c.lines.invariant.taken (rw c.if-branch.false at c.in_ok-next_line.ensures.line)
+returns-clause-log g c = taken_end c.lines.is_first _ _ _ c.lines.invariant.taken (rw c.if-branch.false at c.in_ok-next_line.ensures.line)

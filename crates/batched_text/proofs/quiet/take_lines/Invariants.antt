@@ -8,7 +8,7 @@ use Rattle.batched_text.proofs.quiet.take_lines.Given as goal
 
 abbrev pub invariant-lines : goal.invariant-lines
 invariant-lines g l = record {
-  taken : TakenSoFar (g.R.Read.remaining l.initial.reader.inner) (prepend_known (ahead l.lines) (g.R.Read.remaining l.reader.inner)) l.engine.log;
+  taken : TakenSoFar l.is_first (g.R.Read.remaining l.initial.reader.inner) (prepend_known (ahead l.lines) (g.R.Read.remaining l.reader.inner)) l.engine.log;
   none : finished l.engine ≡ finished l.initial.engine;
   kept : l.engine.dropped ≡ l.initial.engine.dropped;
   bounded : 0 < length (ahead l.lines) → l.reader.given ≤ MOST_GIVEN_BYTES + BUFFER_BYTES;

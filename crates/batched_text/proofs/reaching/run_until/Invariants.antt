@@ -1,4 +1,4 @@
-use Rattle.std.proofs.Common.{◌≡◌, ◌<◌, ◌≤◌, ◌+◌, ◌-◌, length}
+use Rattle.std.proofs.Common.{◌≡◌, ◌<◌, ◌≤◌, ◌+◌, ◌-◌, ℕ, false, List, Option, length}
 use Rattle.std.specs.Io.KnownBytes.{prepend_known}
 use Rattle.line_io.specs.Ahead.{ahead}
 use Rattle.engine.specs.Engine.{finished}
@@ -8,7 +8,9 @@ use Rattle.batched_text.proofs.reaching.run_until.Given as goal
 
 abbrev pub invariant-batches : goal.invariant-batches
 invariant-batches g l = record {
-  taken : HasTaken (g.R.Read.remaining l.initial.reader.inner) (prepend_known (ahead l.lines) (g.R.Read.remaining l.reader.inner)) l.place l.engine.log;
+  taken : (input : Option (List ℕ))
+      → HasTaken false input (prepend_known (ahead l.initial.lines) (g.R.Read.remaining l.initial.reader.inner)) l.place l.initial.engine.log
+      → HasTaken false input (prepend_known (ahead l.lines) (g.R.Read.remaining l.reader.inner)) l.place l.engine.log;
   kept : l.engine.dropped ≤ l.place;
   bounded : 0 < length (ahead l.lines) → l.reader.given ≤ MOST_GIVEN_BYTES + BUFFER_BYTES;
   read_errors : l.reader.errors ≡ l.initial.reader.errors;

@@ -1,4 +1,4 @@
-use Rattle.std.proofs.Common.{◌≡◌, ◌∙◌, ap, arith, length}
+use Rattle.std.proofs.Common.{◌≡◌, false, ◌∙◌, ap, arith, length}
 use Rattle.line_io.specs.Ahead.{found_line}
 use Rattle.engine.specs.Engine.{Run, finished}
 use Rattle.batched_text.proofs.Fronts.{front_step}
@@ -11,7 +11,7 @@ lines-preserved g c =
     let took = c.in_ok-take_quietly.ensures in
     let count : c.len.result ≡ length c.lines.engine.log.statements = c.len.ensures.count ∙ ap length (ap (λ log. log.statements) c.log.ensures.value) in
     record {
-      taken = λ input end less so. front_step input _ _ end _ _ (found_line c.next_line.new.self) (c.lines.invariant.taken input end less so) line
+      taken = λ input end less so. front_step false input _ _ end _ _ (found_line c.next_line.new.self) (c.lines.invariant.taken input end less so) line
           (omega (arith, less, count, c.lines-test.true)) took.0 (rw c.line.ensures at took.1.0) (ap (λ (run : Run). run.log) took.1.1);
       none = ap (λ (run : Run). finished run) took.1.1 ∙ c.lines.invariant.none;
       kept = ap (λ (run : Run). run.dropped) took.1.1 ∙ c.lines.invariant.kept;

@@ -1,4 +1,4 @@
-use Rattle.std.proofs.Common.{◌≡◌, ℕ, ◌<◌, ◌≤◌, ◌+◌, ◌-◌, List, Option, length}
+use Rattle.std.proofs.Common.{◌≡◌, false, ℕ, ◌<◌, ◌≤◌, ◌+◌, ◌-◌, List, Option, length}
 use Rattle.std.specs.Io.KnownBytes.{prepend_known}
 use Rattle.line_io.specs.Ahead.{ahead}
 use Rattle.engine.specs.Engine.{finished}
@@ -9,8 +9,8 @@ use Rattle.batched_text.proofs.reaching.take_until.Given as goal
 abbrev pub invariant-lines : goal.invariant-lines
 invariant-lines g l = record {
   taken : (input : Option (List ℕ)) (end : ℕ) → l.place ≤ end
-      → HasTaken input (prepend_known (ahead l.initial.lines) (g.R.Read.remaining l.initial.reader.inner)) end l.initial.engine.log
-      → HasTaken input (prepend_known (ahead l.lines) (g.R.Read.remaining l.reader.inner)) end l.engine.log;
+      → HasTaken false input (prepend_known (ahead l.initial.lines) (g.R.Read.remaining l.initial.reader.inner)) end l.initial.engine.log
+      → HasTaken false input (prepend_known (ahead l.lines) (g.R.Read.remaining l.reader.inner)) end l.engine.log;
   none : finished l.engine ≡ finished l.initial.engine;
   kept : l.engine.dropped ≡ l.initial.engine.dropped;
   bounded : 0 < length (ahead l.lines) → l.reader.given ≤ MOST_GIVEN_BYTES + BUFFER_BYTES;

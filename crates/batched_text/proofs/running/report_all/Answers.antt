@@ -3,7 +3,7 @@ use Rattle.sequencer.proofs.Beginnings.{begins_same}
 use Rattle.sequencer.specs.Catalog.{no_names}
 use Rattle.sequencer.specs.Log.{Accepted}
 use Rattle.bohm_base.proofs.Reached.{begun_start}
-use Rattle.log_text.proofs.Total.{total}
+use Rattle.log_text.proofs.Total.{total_in}
 use Rattle.batched_text.specs.Batching.{IsLogOfText}
 use Rattle.batched_text.proofs.Cutting.{open_first, trimmed_all}
 use Rattle.batched_text.proofs.Faults.{reads_told, writes_told}
@@ -13,10 +13,10 @@ use Rattle.batched_text.proofs.ReadSofar.{read_begun_start, read_whole}
 use Rattle.batched_text.proofs.running.report_all.Goals as goal
 
 pub returns-in_err-lines-clause-begun : goal.returns-in_err-lines-clause-begun
-returns-in_err-lines-clause-begun g c = begun_start total _ _ _ c.requires.first.nothing
+returns-in_err-lines-clause-begun g c = begun_start total_in _ _ _ c.requires.first.nothing
 
 pub returns-in_err-lines-clause-begun_read : goal.returns-in_err-lines-clause-begun_read
-returns-in_err-lines-clause-begun_read g c = read_begun_start total _ _ _ c.requires.first.nothing
+returns-in_err-lines-clause-begun_read g c = read_begun_start total_in _ _ _ c.requires.first.nothing
 
 pub report_rest-requires-clause-ready : goal.report_rest-requires-clause-ready
 report_rest-requires-clause-ready g c κs within = record {

@@ -1,7 +1,7 @@
 use Rattle.std.proofs.Common.{◌∙◌, arith, rules}
 use Rattle.line_io.specs.Ahead.{ahead, found_line}
 use Rattle.line_io.proofs.Pieces.{read_none}
-use Rattle.log_text.proofs.Total.{total}
+use Rattle.log_text.proofs.Total.{total_in}
 use Rattle.batched_text.proofs.Faults.{reads_told, writes_never}
 use Rattle.batched_text.proofs.ForetoldLines.{begins_dealt}
 use Rattle.batched_text.proofs.ReadSofar.{gathers_end, read_begun}
@@ -13,8 +13,8 @@ returns-in_err-next_line-clause-turn g c = λ held. record {
   taken = search rules;
   room = search rules;
   ended = search rules;
-  begun = λ input out so. begun_batched total input _ out _ _ _ _ _ _ so;
-  begun_read = λ input out so. read_begun _ _ _ _ _ _ _ total input _ _ (ahead c.args.lines.now) so c.in_err-next_line.ensures.left;
+  begun = λ input out so. begun_batched total_in input _ out _ _ _ _ _ _ so;
+  begun_read = λ input out so. read_begun _ _ _ _ _ _ _ total_in input _ _ (ahead c.args.lines.now) so c.in_err-next_line.ensures.left;
 }
 
 pub returns-then-not-branch-clause-turn : goal.returns-then-not-branch-clause-turn
@@ -23,8 +23,8 @@ returns-then-not-branch-clause-turn g c = λ held. record {
   room = λ _. c.requires.ready.room;
   ended = λ _ input out so. gathers_end input _ _ out _ (ahead c.args.lines.now) c.args.batching.now so c.in_ok-next_line.ensures.left
       (rw c.if-not-branch.true at c.in_ok-next_line.ensures.line);
-  begun = λ input out so. begun_batched total input _ out _ _ _ _ _ _ so;
-  begun_read = λ input out so. read_begun _ _ _ _ _ _ _ total input _ _ (ahead c.args.lines.now) so c.in_ok-next_line.ensures.left;
+  begun = λ input out so. begun_batched total_in input _ out _ _ _ _ _ _ so;
+  begun_read = λ input out so. read_begun _ _ _ _ _ _ _ total_in input _ _ (ahead c.args.lines.now) so c.in_ok-next_line.ensures.left;
 }
 
 pub returns-in_err-deal-clause-turn : goal.returns-in_err-deal-clause-turn
@@ -32,9 +32,9 @@ returns-in_err-deal-clause-turn g c = λ held. record {
   taken = search rules;
   room = search rules;
   ended = search rules;
-  begun = λ input out so. rw c.in_err-deal.ensures.pending (begun_batched total input _ out _ _ _ _ _ _ so);
+  begun = λ input out so. rw c.in_err-deal.ensures.pending (begun_batched total_in input _ out _ _ _ _ _ _ so);
   begun_read = λ input out so. rw c.in_err-deal.ensures.pending
-      (read_begun _ _ _ _ _ _ _ total input _ _ (ahead c.args.lines.now) so c.in_ok-next_line.ensures.left);
+      (read_begun _ _ _ _ _ _ _ total_in input _ _ (ahead c.args.lines.now) so c.in_ok-next_line.ensures.left);
 }
 
 pub returns-clause-turn : goal.returns-clause-turn
@@ -50,6 +50,7 @@ returns-clause-turn g c = λ held.
           bounded = λ _. given.1;
           numbered = omega (arith, given.0, dealt.1.1.number, c.requires.ready.numbered);
         };
+        begun = omega (arith, dealt.1.1.number, before.few);
         forward = given.0;
         most = given.1;
         batched = λ input out so. batched_step input _ _ out _ (found_line c.next_line.new.lines) dealt.0 c.args.batching.now c.deal.new.batching so
@@ -58,11 +59,11 @@ returns-clause-turn g c = λ held.
       };
       room = search rules;
       ended = search rules;
-      begun = λ input out so. begun_batched total input _ out _ _ _ _ _ _
+      begun = λ input out so. begun_batched total_in input _ out _ _ _ _ _ _
           (batched_step input _ _ out _ (found_line c.next_line.new.lines) dealt.0 c.args.batching.now c.deal.new.batching so
           (rw c.if-not-branch.false at c.in_ok-next_line.ensures.line) dealt.1.0 dealt.1.1 (omega (arith, before.counted))
           (record { whole = room.whole; within = omega (arith, room.counted) }));
-      begun_read = λ input out so. read_begun _ _ _ _ _ _ _ total input _ _ (ahead c.next_line.new.lines)
+      begun_read = λ input out so. read_begun _ _ _ _ _ _ _ total_in input _ _ (ahead c.next_line.new.lines)
           (batched_step input _ _ out _ (found_line c.next_line.new.lines) dealt.0 c.args.batching.now c.deal.new.batching so
           (rw c.if-not-branch.false at c.in_ok-next_line.ensures.line) dealt.1.0 dealt.1.1 (omega (arith, before.counted))
           (record { whole = room.whole; within = omega (arith, room.counted) })) (read_none _);

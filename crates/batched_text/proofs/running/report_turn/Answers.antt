@@ -1,7 +1,7 @@
 use Rattle.std.proofs.Common.{◌≡◌, ◌-◌, length, ap, refl, ◌∙◌, arith, rules, length-drop}
 use Rattle.std.specs.Prelude.{Err}
 use Rattle.line_io.specs.Ahead.{ahead}
-use Rattle.log_text.proofs.Total.{total}
+use Rattle.log_text.proofs.Total.{total_in}
 use Rattle.batched_text.proofs.Ended.{batched_written, begun_cut}
 use Rattle.batched_text.proofs.Faults.{reads_told, writes_told}
 use Rattle.batched_text.proofs.ReadSofar.{read_begun_cut, run_begun}
@@ -81,7 +81,7 @@ returns-clause-turn g c =
     let early = runs_early c.args.runner.now.plan (record { bytes = c.bytes_ahead-bytes.result; given = c.report_line.new.reader.given }) 0 c.in_ok-taken.taken c.report_line.new.batching
     c.deal_at_hand.new.batching c.report_early.new.batching c.in_ok-taken.ensures.runs put.log put.number put.reports put.room in
     let runs = rw c.bytes_ahead-bytes.ensures at early in
-    let still = runs.ready.room.filling in
+    let still = runs.ready.ready.room.filling in
     let left : length (ahead c.take_ahead.new.self) ≡ length (ahead c.report_line.new.lines) - c.in_ok-taken.taken =
     ap length c.take_ahead.ensures.ahead ∙ length-drop c.in_ok-taken.taken (ahead c.report_line.new.lines) in
     record {
@@ -89,11 +89,12 @@ returns-clause-turn g c =
         ready = record {
           room = record {
             filling = record { within = still.within; whole = still.whole; counted = still.counted; few = still.few; kept = still.kept; cut = still.cut; most = still.most };
-            less = runs.ready.room.less;
+            less = runs.ready.ready.room.less;
           };
-          bounded = λ some. runs.ready.bounded (omega (arith, some, left));
-          numbered = omega (arith, runs.ready.numbered, left);
+          bounded = λ some. runs.ready.ready.bounded (omega (arith, some, left));
+          numbered = omega (arith, runs.ready.ready.numbered, left);
         };
+        begun = runs.ready.begun;
         forward = omega (arith, took.forward, left);
         most = took.most;
         batched = λ input out so.
@@ -102,7 +103,7 @@ returns-clause-turn g c =
       };
       room = search rules;
       ended = search rules;
-      begun = λ input out so. begun_batched total input _ out _ _ _ _ _ _
+      begun = λ input out so. begun_batched total_in input _ out _ _ _ _ _ _
           (batched_written input _ out _ _ c.report_early.new.batching.pending.items c.write_pending.new.pending.items _ _ _ _
           (runs.taken _ input out _ (took.batched input out so)) c.in_ok-write_pending.ensures.ok c.write_pending.ensures.empty);
       begun_read = λ input out so. read_begun_cut input _ out _ _ c.report_early.new.batching.pending.items c.write_pending.new.pending.items
@@ -114,7 +115,7 @@ pub deal_at_hand-requires-clause-ready : goal.deal_at_hand-requires-clause-ready
 deal_at_hand-requires-clause-ready g c κs within =
     let took = (rw c.if-not-branch.false at (c.in_ok-report_line.ensures.turn (g.W.Write.contents c.args.writer.now.inner)).taken) refl in
     ready_start c.args.runner.now.plan (record { bytes = c.bytes_ahead-bytes.result; given = c.report_line.new.reader.given }) c.report_line.new.batching
-    (rw c.bytes_ahead-bytes.ensures took.ready)
+    (rw c.bytes_ahead-bytes.ensures took.ready) took.begun
 
 pub returns-in_err-taken-clause-reads : goal.returns-in_err-taken-clause-reads
 returns-in_err-taken-clause-reads g c =

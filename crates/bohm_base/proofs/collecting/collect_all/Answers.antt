@@ -1,4 +1,5 @@
 use Rattle.std.proofs.Common.{ℕ, ap, refl, ◌∙◌, rules}
+use Rattle.std.specs.Prelude.{◌==◌}
 use Rattle.line_io.specs.Ahead.{found_line}
 use Rattle.bohm_base.specs.Faults.{read_errors}
 use Rattle.bohm_base.proofs.LinesRead.{collect_start, collect_step, collect_end, fault_told}
@@ -15,8 +16,8 @@ pub lines-preserved : goal.lines-preserved
 lines-preserved g c =
     let given = rw c.if-branch.true at c.in_ok-next_line.ensures.given in
     record {
-      collected = collect_step _ _ _ _ _ _ _ (found_line c.next_line.new.self) _ c.lines.invariant.collected
-          (rw c.if-branch.true at c.in_ok-next_line.ensures.line) (rw c.line.ensures at c.in_ok-line.ensures.line) c.in_ok-push.ensures.items;
+      collected = collect_step _ _ _ _ _ _ _ (found_line c.next_line.new.self) _ _ c.lines.invariant.collected
+          (rw c.if-branch.true at c.in_ok-next_line.ensures.line) (c.is_empty-is_first.ensures ∙ ap (λ (count : ℕ). count == 0) c.lines.collected.lines.ok.0) (rw c.line.ensures at c.in_ok-line.ensures.line) c.in_ok-push.ensures.items;
       bounded = λ _. given.1;
       read_errors = c.in_ok-next_line.ensures.other (λ e. cc) ∙ c.lines.invariant.read_errors;
     }

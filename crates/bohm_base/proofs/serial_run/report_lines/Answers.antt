@@ -9,7 +9,7 @@ returns-in_err-report_line-clause-begun g c =
     let low : c.loop-index.index < length c.args.collected.now.lines.items = omega (arith, ap length c.deref-line-items.ensures.value) in
     begun_then _ (g.W.Write.contents c.loop-index.writer.inner) _ _ _ c.report_line.new.pending.items _
     (moves_on _ _ c.args.collected.now.log c.args.collected.now.lines.items c.loop-index.index c.loop-index.place
-    (places_of (get_or c.args.collected.now.lines.items c.loop-index.index LineOutcome.Accepted)) LineOutcome.Accepted
+    (places_of (get_or c.args.collected.now.lines.items c.loop-index.index LineOutcome.Heading)) LineOutcome.Heading
     c.loop-index.pending.items c.loop-index.invariant.written low refl)
     (rw c.deref-line-items.ensures.value at c.report_line.ensures.begun)
 
@@ -19,7 +19,7 @@ loop-index-preserved g c =
     let writes : c.report_line.new.writer.errors ≡ c.loop-index.writer.errors = c.in_ok-report_line.ensures.errors in
     record {
       written = moves_then _ (g.W.Write.contents c.loop-index.writer.inner) _ _ _ c.report_line.new.pending.items _
-          (moves_on _ _ c.args.collected.now.log c.args.collected.now.lines.items c.loop-index.index c.loop-index.place c.places-place.result LineOutcome.Accepted
+          (moves_on _ _ c.args.collected.now.log c.args.collected.now.lines.items c.loop-index.index c.loop-index.place c.places-place.result LineOutcome.Heading
           c.loop-index.pending.items c.loop-index.invariant.written low (rw c.deref-line-items.ensures.value at c.places-place.ensures.count))
           (rw c.deref-line-items.ensures.value at c.in_ok-report_line.ensures.ok);
       places = omega (arith, c.places-place.ensures.most, c.loop-index.invariant.places);

@@ -1,11 +1,10 @@
-use Rattle.std.proofs.Common.{◌≡◌, ap, arith}
-use Rattle.std.specs.Fmt.{decimal}
-use Rattle.std.proofs.lemmas.Grind.{common_steps}
-use Rattle.model_base.specs.Ranks.{place_of_rank}
-use Rattle.model_base.proofs.Ranked.{place-at}
+use Rattle.std.proofs.Common.{◌++◌, List, ℕ, ap, sym, ◌∙◌}
+use Rattle.report.proofs.Spelled.{in_two, then_on}
 use Rattle.report.proofs.text.put_records.Goals as goal
 
-pub loop-name-preserved : goal.loop-name-preserved
-loop-name-preserved c =
-    let here : decimal (place_of_rank c.name-item.result) ≡ decimal c.name.inside.place = ap decimal (place-at c.name.inside c.name-item.result c.name.view_is) in
-    grind (arith, common_steps)
+pub returns-in-Two : goal.returns-in-Two
+returns-in-Two c =
+    then_on c.put_spelled.result (rw c.users.ensures at c.put_spelled.ensures)
+    (λ is log are.
+    is ∙ ap (λ (text : List ℕ). c.args.text.now.items ++ text)
+    (in_two log c.args.catalog.now c.args.names.now c.args.grantees.now (sym c.version.ensures ∙ c.in-Two.is) are))

@@ -11,4 +11,4 @@ returns-clause-told c =
     let log : Accepted = c.args.self.now.order.run.log in
     let place = c.args.place in
     on_ok c.put_explained.result c.put_explained.ensures.told (λ so. fed_explains c.args.self.now place so.0 _ so.1
-    (so.2 ∙ ap (λ (w : List ℕ). w ++ place_text log.statements log.names.tables place ++ explanation_text log.names.tables so.0) c.requires))
+    (so.2 ∙ ap (λ (w : List ℕ). w ++ place_text log.statements log.names place ++ explanation_text log.statements log.names so.0) c.requires))

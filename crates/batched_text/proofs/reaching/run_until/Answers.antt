@@ -1,0 +1,18 @@
+use Rattle.std.proofs.Common.{arith, refl}
+use Rattle.batched_text.proofs.reaching.run_until.Goals as goal
+
+pub returns-then-not-branch-clause-taken : goal.returns-then-not-branch-clause-taken
+returns-then-not-branch-clause-taken g c = (rw c.if-not-branch.true at c.in_ok-take_first.ensures.taken) c.args.place
+
+pub batches-init : goal.batches-init
+batches-init g c = record {
+  taken = λ input so. so;
+  kept = omega (arith, c.in_ok-take_first.ensures.kept, c.requires.none);
+  bounded = c.take_first.ensures.bound;
+  read_errors = refl;
+}
+
+pub returns-clause-taken : goal.returns-clause-taken
+returns-clause-taken g c =
+    (rw c.if-branch.false at c.in_ok-run_some.ensures.taken) _
+    (c.batches.invariant.taken _ ((rw c.if-not-branch.false at c.in_ok-take_first.ensures.taken) c.args.place))

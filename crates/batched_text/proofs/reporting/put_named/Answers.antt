@@ -1,0 +1,28 @@
+use Rattle.std.proofs.Common.{◌≡◌, length, ap, sym, ◌∙◌, subst, arith}
+use Rattle.model_base.specs.declared.outcome.Outcome.{Outcome}
+use Rattle.sequencer.specs.Catalog.{Names}
+use Rattle.sequencer.specs.Log.{Accepted}
+use Rattle.engine.specs.Engine.{finished}
+use Rattle.report.specs.Text.{HaveGrantees, IsNamed, records_listed}
+use Rattle.bohm_base.proofs.Named.{outcome-named}
+use Rattle.batched_text.proofs.PlacesTold.{granted, place_told}
+use Rattle.batched_text.proofs.reporting.put_named.Goals as goal
+
+pub put_outcome-requires : goal.put_outcome-requires
+put_outcome-requires c =
+    let log : Accepted = c.args.engine.now.log in
+    let same = c.log.ensures.value in
+    let names : c.catalog-catalog.result.now ≡ log.names = c.catalog-catalog.ensures ∙ ap (λ (l : Accepted). l.names) same in
+    subst (λ (n : Names). IsNamed (length n.tables) c.args.found.now) (sym names) (outcome-named log c.args.place c.args.found.now c.requires.whole c.requires.found)
+
+pub returns : goal.returns
+returns c =
+    let log : Accepted = c.args.engine.now.log in
+    let found : Outcome = c.args.found.now in
+    let names : c.catalog-catalog.result.now ≡ log.names = c.catalog-catalog.ensures ∙ ap (λ (l : Accepted). l.names) c.log.ensures.value in
+    let named : HaveGrantees c.catalog-catalog.result.now.version log.statements (records_listed found) c.in_ok-grantees.grantees.items =
+    granted log c.catalog-catalog.result.now c.args.place c.args.statement.now found names c.requires.statement c.requires.found (finished c.args.engine.now)
+    c.records_of.result.now c.in_ok-grantees.grantees.items (omega (arith, c.requires.within)) c.records_of.ensures c.in_ok-grantees.ensures in
+    place_told log c.catalog-catalog.result.now c.args.place c.args.statement.now found names c.requires.statement c.requires.found
+    c.deref.result.now c.put_outcome.result c.args.text.now.items c.put_outcome.new.text.items
+    (subst (HaveGrantees c.catalog-catalog.result.now.version log.statements (records_listed found)) (sym c.deref.ensures.value) named) c.put_outcome.ensures
