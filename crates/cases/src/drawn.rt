@@ -29,7 +29,7 @@ pub struct Drawn<'a> {
     pub logs: u32,
     /// How many lines of each are drawn.
     pub lines: u32,
-    /// The file of the lines from which they are drawn.
+    /// The file of the lines from which they are drawn. A heading of version 2 in it is the first line of each log, and isn't drawn.
     pub path: &'a str,
     pub change: Change,
     /// The log whose lines come after those that are drawn.
@@ -37,10 +37,21 @@ pub struct Drawn<'a> {
     pub runs: Vec<Run>,
 }
 
-/// The first lines of each log: the tables' owners create them.
+/// The first line of logs of version 2.
+const HEADING: &[u8] = b"BOHM 2\n";
+
+/// The next lines of each log: the tables' owners create them.
 const FIRST_LINES: &[u8] = b"ann CREATE s 1\nbob CREATE t 1\n";
 
 const USERS: [&str; 5] = ["ann", "bob", "cid", "dan", "eve"];
+
+/// The grantees of lists.
+const GRANTEES: [&str; 9] = [
+    "ann", "bob", "cid", "dan", "eve", "fay", "gus", "hal", "PUBLIC",
+];
+
+/// The kinds of lists, in order.
+const KINDS: [&str; 4] = ["READ", "INSERT", "UPDATE", "DELETE"];
 
 /// The bytes that are written in place of others where lines are spoilt.
 const OTHER_BYTES: &[u8; 20] = b" |:-_0189azrARUIDC\x7f\n";
@@ -53,7 +64,54 @@ const OTHER_WORDS: &str =
 /// What is counted in the reports: the words of lines.
 const ENDINGS: &str = "created done granted revoked denied never taken aborted undeclared refused";
 
-/// Appends a line that is drawn from these. It has a user in place of each `@`, and of all `#` a row, of all `%` a table, and of all `!` its owner.
+/// Appends one to nine of the first so many grantees, each once, with commas between them: nine are one too many.
+fn put_grantees(log: &mut Vec<u8>, generator: &mut Generator, most: u32) -> Result<(), AllocError> {
+    let most = most.clamp(1, 9);
+    let (first, count) = (generator.below(most), generator.below(most));
+    for number in 0..count + 1 {
+        if number > 0 {
+            log.push(b',')?;
+        }
+        let index = (first + number) % most;
+        log.extend_from_slice(GRANTEES[index as usize].as_bytes())?;
+    }
+    Ok(())
+}
+
+/// Appends one to four of the kinds in order, with commas between them.
+fn put_kinds(log: &mut Vec<u8>, generator: &mut Generator) -> Result<(), AllocError> {
+    let mut chosen = generator.below(15) + 1;
+    for kind in KINDS {
+        if chosen % 2 == 1 {
+            log.extend_from_slice(kind.as_bytes())?;
+            if chosen > 1 {
+                log.push(b',')?;
+            }
+        }
+        chosen /= 2;
+    }
+    Ok(())
+}
+
+/// Appends what is drawn in place of a byte of a line: of `@` a user, of `&` one to eight grantees, of `*` one to nine of them and PUBLIC, of
+/// `^` one to four kinds.
+fn put_drawn_byte(
+    log: &mut Vec<u8>,
+    generator: &mut Generator,
+    byte: u8,
+) -> Result<(), AllocError> {
+    match byte {
+        b'@' => log.extend_from_slice(USERS[generator.below(5) as usize].as_bytes())?,
+        b'&' => put_grantees(log, generator, 8)?,
+        b'*' => put_grantees(log, generator, 9)?,
+        b'^' => put_kinds(log, generator)?,
+        other => log.push(other)?,
+    }
+    Ok(())
+}
+
+/// Appends a line that is drawn from these. It has in place of all `#` a row, of all `%` a table, and of all `!` its owner; and in place of
+/// each of some other bytes what is drawn for it.
 fn put_drawn_line(
     log: &mut Vec<u8>,
     generator: &mut Generator,
@@ -69,11 +127,10 @@ fn put_drawn_line(
     };
     for byte in lines.get(chosen).copied().unwrap_or(b"") {
         match *byte {
-            b'@' => log.extend_from_slice(USERS[generator.below(5) as usize].as_bytes())?,
             b'#' => log.push(b"012"[row])?,
             b'%' => log.push(table)?,
             b'!' => log.extend_from_slice(owner.as_bytes())?,
-            other => log.push(other)?,
+            other => put_drawn_byte(log, generator, other)?,
         }
     }
     Ok(())
@@ -110,14 +167,24 @@ fn put_reworded(
     Ok(())
 }
 
-/// A drawn log, changed as the case says.
+/// The heading of version 2 or nothing, and the text after it.
+fn split_heading(text: &[u8]) -> (&[u8], &[u8]) {
+    match text.strip_prefix(HEADING) {
+        Some(rest) => (HEADING, rest),
+        None => (b"", text),
+    }
+}
+
+/// A drawn log, changed as the case says, after this heading or none.
 fn log_of(
     alloc: Global,
     generator: &mut Generator,
     case: &Drawn<'_>,
+    heading: &[u8],
     lines: &[&[u8]],
 ) -> Result<Vec<u8>, AllocError> {
-    let mut log = Vec::from_slice(alloc, FIRST_LINES)?;
+    let mut log = Vec::from_slice(alloc, heading)?;
+    log.extend_from_slice(FIRST_LINES)?;
     let mut line = Vec::new(alloc);
     for _ in 0..case.lines {
         line.clear();
@@ -174,6 +241,7 @@ pub fn drawn_reports<R: Files + Threads + Wait + Sync>(
         .as_slice()
         .strip_suffix(b"\n".as_slice())
         .unwrap_or(b"");
+    let (heading, text) = split_heading(text);
     let lines = text
         .split(|byte| *byte == b'\n')
         .collect::<Vec<&[u8]>>(alloc)?;
@@ -181,7 +249,7 @@ pub fn drawn_reports<R: Files + Threads + Wait + Sync>(
     let mut reports = Vec::new(alloc);
     let mut same: usize = 0;
     for _ in 0..case.logs {
-        let mut log = log_of(alloc, &mut generator, case, lines.as_slice())?;
+        let mut log = log_of(alloc, &mut generator, case, heading, lines.as_slice())?;
         let found = compare_log(rt, alloc, case, &mut log, last.as_slice(), &mut reports)?;
         same = same.saturating_add(found);
     }

@@ -8,6 +8,9 @@ use std::sync::Wait;
 use std::thread::Threads;
 use trials_base::TrialFault;
 
+/// The first line of a log of version 2.
+const HEADING: &[u8] = b"BOHM 2";
+
 /// By how many of the runs a log has the report that was worked out.
 pub fn worked_reports<R: Files + Threads + Wait + Sync>(
     rt: &R,
@@ -28,6 +31,11 @@ fn line_count(text: &[u8]) -> usize {
         None | Some(b'\n') => ends,
         Some(_) => ends.saturating_add(1),
     }
+}
+
+/// Whether a log begins with the heading of version 2, which has no line in the report.
+fn has_heading(log: &[u8]) -> bool {
+    log == HEADING || log.starts_with(b"BOHM 2\n")
 }
 
 /// The last line of a text, without its line feed.
@@ -57,7 +65,7 @@ pub fn same_reports<R: Files + Threads + Wait + Sync>(
     )?)
 }
 
-/// Whether the report of a log by the run in order has a line for each of its lines, and is that of the runs too.
+/// Whether the report of a log by the run in order has a line for each of its lines but a heading, and is that of the runs too.
 pub fn is_reported<R: Threads + Wait + Sync>(
     rt: &R,
     alloc: Global,
@@ -66,7 +74,8 @@ pub fn is_reported<R: Threads + Wait + Sync>(
 ) -> Result<bool, TrialFault> {
     let report = Run::in_order().text(rt, alloc, log)?;
     let same = right_runs(rt, alloc, log, runs, report.as_slice())?;
-    Ok(same == runs.len() && line_count(report.as_slice()) == line_count(log))
+    let lines = line_count(log).saturating_sub(usize::from(has_heading(log)));
+    Ok(same == runs.len() && line_count(report.as_slice()) == lines)
 }
 
 /// For how many of the beginnings of a log, whose last line may so be cut anywhere, all runs write one report with as many lines.

@@ -39,7 +39,7 @@ fn explained(
 ) -> Result<(Vec<u8>, bool), ExplainFault> {
     let explanation = explain(alloc, engine, place)?;
     let mut text = Vec::new(alloc);
-    put_explanation(&mut text, engine.log().catalog().tables(), &explanation)?;
+    put_explanation(alloc, &mut text, engine, &explanation)?;
     let accepted = check(&explanation, engine.log(), engine.book());
     Ok((text, accepted))
 }

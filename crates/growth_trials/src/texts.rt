@@ -19,6 +19,10 @@ const TWO_WAYS: &[u8] =
 const DEED_BY_DATA: &[u8] =
     b"alice CREATE t 1\nalice RUN t:1:I | CONST 0 1 | INSERT t 1 0\nalice RUN t:1:R | LOAD 0 t 1 0 | CHECK 0 | OUT 0 | GRANT READ t bob\nbob RUN t:1:R | HAS 0 t 1 | OUT 0\nalice RUN t:1:D | DELETE t 1 | REVOKE READ t bob\nbob RUN t:1:R\nalice RUN t:1:R | LOAD 0 t 1 0\n";
 
+/// Lists of version 2, of which one is revoked.
+const LISTS: &[u8] =
+    b"BOHM 2\nalice CREATE t 1\nalice GRANT READ,UPDATE t bob,carol OPTION\nbob GRANT READ t dave,PUBLIC\ndave RUN t:1:R\nalice REVOKE READ t carol,bob\nerin RUN t:1:R\n";
+
 /// For how many bytes a writer has room, so that it doesn't fail.
 const ROOM: usize = 1024;
 
@@ -92,12 +96,12 @@ fn try_text<R: Threads + Wait + Print + Sync>(
     Ok(())
 }
 
-/// Tries the calls from bytes to bytes on two logs, of each of which one place is explained, by one worker.
+/// Tries the calls from bytes to bytes on three logs, of each of which one place is explained, by one worker.
 pub fn try_texts<R: Threads + Wait + Print + Sync>(
     rt: &R,
     alloc: Global,
 ) -> Result<(), TrialFault> {
-    for (log, place) in [(TWO_WAYS, 8), (DEED_BY_DATA, 5)] {
+    for (log, place) in [(TWO_WAYS, 8), (DEED_BY_DATA, 5), (LISTS, 5)] {
         for (call, text) in [
             ("serial_text", Text::Slow),
             ("report_text", Text::Batches(settings(1, 3))),
@@ -112,12 +116,12 @@ pub fn try_texts<R: Threads + Wait + Print + Sync>(
     Ok(())
 }
 
-/// Tries the runs of the two logs by two workers.
+/// Tries the runs of the three logs by two workers.
 pub fn try_workers<R: Threads + Wait + Print + Sync>(
     rt: &R,
     alloc: Global,
 ) -> Result<(), TrialFault> {
-    for log in [TWO_WAYS, DEED_BY_DATA] {
+    for log in [TWO_WAYS, DEED_BY_DATA, LISTS] {
         for (call, batch) in [
             ("run_text, batch 1, 2 workers", 1),
             ("run_text, batch 3, 2 workers", 3),
