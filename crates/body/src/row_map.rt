@@ -11,7 +11,7 @@ use std::alloc::{AllocError, Global};
 use std::collections::HashMap;
 
 /// The rows of all tables. A row is found in a time that doesn't grow with their number, on average. A key with no entry has no row; nor
-/// has a key whose entry is `None`, which is so while rows are written. The map keeps the memory of the most entries that it had at once.
+/// has a key whose entry is `None`, but while rows are written. The map keeps the memory of the most entries that it had at once.
 #[derive(Drop)]
 pub struct RowMap {
     entries: HashMap<Key, Option<Row>, HashSeed>,

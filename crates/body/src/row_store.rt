@@ -38,7 +38,7 @@ pub trait RowStore: RowSource {
 
     ghost has_room: { Self → ℕ → ℕ → Type 0 };
 
-    /// Makes room for the row of a key. All rows stay as they are, also if memory is refused.
+    /// Makes room for the row of a key. All rows stay as they are, also if memory runs out.
     fn reserve_row(&mut self, key: Key) -> Result<(), AllocError>
         ensures room { OnOk result (has_room self.new key.table key.row) }
         ensures rows { Self.rows self.new ≡ Self.rows self.old }
@@ -134,7 +134,7 @@ pub fn release_absent<S: RowStore>(accesses: &[Access], window: &Window, store: 
     }
 }
 
-/// Writes the rows of the window at the keys of the statement's accesses. Where memory is refused, all rows of the store are as they were.
+/// Writes the rows of the window at the keys of the statement's accesses. Where memory runs out, all rows of the store are as they were.
 /// If two accesses name one key, the row of the first counts. A store that had room only for rows that are there has so afterwards,
 /// whatever happened.
 pub fn write_back<S: RowStore>(

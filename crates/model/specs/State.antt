@@ -1,4 +1,4 @@
--- What the state of a run stands for.
+-- What the state of a run means.
 use Rattle.model_base.specs.Outcomes.{World}
 use Rattle.body.specs.RowMap.{rows_of}
 use Rattle.model.specs.declared.serial_state.State.{State}

@@ -56,7 +56,7 @@ fn make_first(
 }
 
 /// Appends the deeds that are left, one after another.
-fn make_rest(deeds: &mut Vec<Deed>, rest: &mut Deeds) -> Result<(), AllocError>
+fn make_rest(deeds: &mut Vec<Deed>, rest: &mut Deeds<'_>) -> Result<(), AllocError>
     ensures { OnOk result (deeds.new.items ≡ deeds.old.items ++ rest.old) }
 {
     'deeds: while let Some(deed) = rest.next() {
@@ -65,14 +65,14 @@ fn make_rest(deeds: &mut Vec<Deed>, rest: &mut Deeds) -> Result<(), AllocError>
     Ok(())
 }
 
-/// Appends the deeds of a completed statement, one after another, after those made so far, after which the grants are in force. Says what they
-/// resulted in.
+/// Appends the deeds of a completed statement, one after another, after those made so far, after which the grants are in force. Says what
+/// they resulted in.
 pub(crate) fn make(
     alloc: Global,
     owners: &[User],
     grants: &[Grant],
     deeds: &mut Vec<Deed>,
-    made: &mut Deeds,
+    made: &mut Deeds<'_>,
 ) -> Result<DeedDone, AllocError>
     requires { grants.now ≡ kept owners.now deeds.old.items }
     ensures done { IfOk result (λ done. (rows : Rows)

@@ -22,20 +22,12 @@ use replay::owners;
 use serial_state::State;
 use std::alloc::{AllocError, Global};
 
-/// The outcome of each place of a log, found by following the definition: plain and slow.
+/// The outcome of each place of a log, found by following the definition: plain and slow. Rows are found under the seed.
 ///
 /// What is held before a statement is found by making all deeds before it again, which takes up to D² steps for D deeds. Where a statement
 /// is denied, that is done for each beginning of those deeds too, which takes up to D³. So N statements take up to N·D² steps and D³ for
 /// each denied one, and the bodies what `body::run_on` takes for them.
-pub fn serial(alloc: Global, statements: &[Statement]) -> Result<Vec<Outcome>, AllocError>
-    requires { All IsRunnable statements.now }
-    ensures { IfOk result (λ outcomes. (place : ℕ) → slice_get outcomes.items place ≡ outcome statements.now place) }
-{
-    serial_seeded(alloc, statements, HashSeed::fixed())
-}
-
-/// The same, whose rows are found under this seed.
-pub fn serial_seeded(
+pub fn serial(
     alloc: Global,
     statements: &[Statement],
     seed: HashSeed,

@@ -1,5 +1,5 @@
--- What each place of a log results in, by a serial run: each statement in turn is checked, run, and may change who holds what. The order of
--- the log is the order of the transactions, and a transaction's timestamp is its place: J. M. Faleiro and D. J. Abadi, "Rethinking
+-- What each place of a log results in, by a serial run: one statement after another is checked, run, and may change who holds what. The
+-- order of the log is the order of the transactions, and a transaction's timestamp is its place: J. M. Faleiro and D. J. Abadi, "Rethinking
 -- Serializable Multiversion Concurrency Control", PVLDB 8 (2015), section 3.
 use Rattle.std.specs.Prelude.{ℕ, ◌+◌, ◌&&◌, not, Bool, true, false, Option, Some, None, List, [], ◌∷◌, ◌++◌, take, map, slice_get, if◌then◌else◌}
 use Rattle.std.specs.List.{flat_map, find}

@@ -1,5 +1,6 @@
--- The order of the records of grants: by the place of their deed, at one place by kind, and of one kind by the position of the grantee in the
--- deed. Each repeated grant is a record by itself: R. Fagin, "On an Authorization Mechanism", ACM Transactions on Database Systems 3 (1978).
+-- The order of the records of grants: by the place of their deed, at one place by kind, and of one kind by the position of the grantee in
+-- the deed. Each repeated grant is a record by itself: R. Fagin, "On an Authorization Mechanism", ACM Transactions on Database Systems 3
+-- (1978).
 use Rattle.std.specs.Prelude.{◌+◌, ◌*◌, ◌/◌, ◌%◌, ℕ}
 use Rattle.model_base.specs.declared.deed.Kind.{Kind}
 use Rattle.model_base.specs.declared.deed.Kind.TheVariants.{Read, Insert, Update, Delete}

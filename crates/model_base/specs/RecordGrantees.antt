@@ -1,14 +1,21 @@
--- To whom the record of a grant is, by the statement of its place: the grantee that the deed names at the record's position.
+-- The records of a log before a place, and to whom each is, by the statement of its place: the grantee that the deed names at the record's
+-- position.
 use Rattle.std.specs.Prelude.{◌≡◌, ℕ, Option, option_and_then, All, Contains, List, [], slice_get}
 use Rattle.std.specs.Option.{option_map_or}
 use Rattle.model_base.specs.declared.deed.Grantee.{Grantee}
 use Rattle.model_base.specs.declared.deed.Grant.{Grant}
 use Rattle.model_base.specs.declared.deed.Deed.TheVariants.{Granting}
+use Rattle.model_base.specs.declared.deed.Record.{Record}
 use Rattle.model_base.specs.declared.statement.DeedForm.{DeedForm}
 use Rattle.model_base.specs.declared.statement.Form.{Form}
 use Rattle.model_base.specs.declared.statement.Statement.{Statement}
 use Rattle.model_base.specs.Ranks.{place_of_rank, position_of_rank, rank}
-use Rattle.model_base.specs.Outcomes.{deeds_before}
+use Rattle.model_base.specs.Outcomes.{deeds_before, owners}
+use Rattle.model_base.specs.Records.{records}
+
+-- the records of the deeds before a place of a log
+abbrev pub log_records : List Statement → ℕ → List Record
+log_records log place = records (owners log) (deeds_before log place)
 
 -- the grantees of a deed
 abbrev pub deed_grantees : DeedForm → List Grantee

@@ -55,6 +55,7 @@ impl Kinds {
     ghost use Rattle.model_base.specs.Privileges.{has_kind, only};
 
     /// The one kind alone.
+    #[inline(always)]
     pub fn only(kind: Kind) -> Self
         ensures { result ≡ only kind }
     {
@@ -96,7 +97,7 @@ pub enum Cause {
     Taken(Place),
 }
 
-/// To whom a privilege is granted: to one user, or to all of them. PUBLIC stands for every user, now and later, and gives
+/// To whom a privilege is granted: to one user, or to all of them. PUBLIC is every user, now and later, and gives
 /// nobody the right to grant further.
 #[derive(Clone, Copy, PartialEq, Eq, Debug)]
 pub enum Grantee {

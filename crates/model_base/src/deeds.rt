@@ -2,50 +2,35 @@
 
 ghost use Rattle.std.specs.Prelude.{◌≡◌, ◌<◌, ◌∷◌, [], MatchOption, length, map};
 
-use crate::deed::{Deed, Grant, Grantee, Kind, Kinds, Position, Revocation};
+use crate::deed::{Deed, Grant, Kind, Kinds, Position, Revocation};
 use crate::grantees::Grantees;
 use crate::name::{Place, Table, User};
-use crate::needs::{NO_KIND, take_kind};
+use crate::needs::take_kind;
 use std::marker::Model;
 
 /// The grants of a deed that are left, by kind and then by grantee.
 #[derive(Drop)]
-pub(crate) struct Grants {
-    pub(crate) place: Place,
-    pub(crate) grantor: User,
-    pub(crate) table: Table,
-    pub(crate) option: bool,
-    pub(crate) grantees: Grantees,
+pub(crate) struct Grants<'a> {
+    place: Place,
+    grantor: User,
+    table: Table,
+    option: bool,
+    grantees: &'a Grantees,
     /// The kind that is granted next, and the index of the first grantee to whom it wasn't.
-    pub(crate) kind: Kind,
-    pub(crate) index: usize,
+    kind: Kind,
+    index: usize,
     /// The kinds after it.
-    pub(crate) kinds: Kinds,
+    kinds: Kinds,
 }
 
-impl Grants {
+impl<'a> Grants<'a> {
     ghost use Rattle.model_base.specs.DeedsLeft.{grants_left};
     ghost use Rattle.model_base.specs.declared.limits.TheConstants.{MOST_GRANTEES};
 
-    /// No grant.
-    fn none() -> Self
-        ensures { grants_left result ≡ [] }
-    {
-        Grants {
-            place: 0,
-            grantor: User(0),
-            table: Table(0),
-            option: false,
-            grantees: Grantees::of(Grantee::Public),
-            kind: Kind::Read,
-            index: 1,
-            kinds: NO_KIND,
-        }
-    }
-
     /// Takes the grant of this kind to the next grantee.
+    #[inline(always)]
     fn take_first(&mut self) -> Grant
-        requires within { self.old.index < length self.old.grantees }
+        requires within { self.old.index < length self.old.grantees.now }
         requires few { self.old.index < MOST_GRANTEES }
         ensures { grants_left self.old ≡ result ∷ grants_left self.new }
     {
@@ -63,6 +48,7 @@ impl Grants {
     }
 
     /// The first grant that is left, if one is, which is then left no more.
+    #[inline(always)]
     fn next(&mut self) -> Option<Grant>
         ensures { MatchOption result ((grants_left self.old ≡ []) × (grants_left self.new ≡ []))
             (λ grant. grants_left self.old ≡ grant ∷ grants_left self.new) }
@@ -79,67 +65,96 @@ impl Grants {
     }
 }
 
-/// The deeds of a statement that are left, in the order in which they are made: its grants by kind and then by grantee, or its revocation.
+/// What is left of the deeds of a statement.
 #[derive(Drop)]
-pub struct Deeds {
-    grants: Grants,
-    revocation: Option<Revocation>,
+pub(crate) enum Left<'a> {
+    Nothing,
+    Grants(Grants<'a>),
+    Revocation(Revocation),
 }
 
-impl Model for Deeds {
+/// The deeds of a statement that are left, in the order in which they are made: its grants by kind and then by grantee, or its revocation.
+#[derive(Drop)]
+pub struct Deeds<'a> {
+    left: Left<'a>,
+}
+
+impl<'a> Model for Deeds<'a> {
     ghost use Rattle.std.specs.Prelude.{List};
     ghost use Rattle.model_base.specs.declared.deed.Deed.{Deed};
     ghost use Rattle.model_base.specs.DeedsLeft.{deeds_left};
 
     ghost Value = { List Deed };
 
-    ghost view = { λ left. deeds_left left.grants left.revocation };
+    ghost view = { λ deeds. deeds_left deeds.left };
 }
 
-impl Deeds {
-    ghost use Rattle.model_base.specs.DeedsLeft.{grants_left};
+impl<'a> Deeds<'a> {
+    ghost use Rattle.model_base.specs.Outcomes.{grants_at, kinds_in};
     ghost use Rattle.model_base.specs.declared.deed.Deed.TheVariants.{Granting, Revoking};
 
     /// No deed.
+    #[inline(always)]
     pub(crate) fn none() -> Self
         ensures { result ≡ [] }
     {
         Deeds {
-            grants: Grants::none(),
-            revocation: None,
+            left: Left::Nothing,
         }
     }
 
-    /// The grants.
-    pub(crate) fn granting(grants: Grants) -> Self
-        ensures { result ≡ map Granting (grants_left grants) }
+    /// The grants of some kinds to some grantees.
+    #[inline(always)]
+    pub(crate) fn granting(
+        place: Place,
+        grantor: User,
+        table: Table,
+        option: bool,
+        grantees: &'a Grantees,
+        kinds: Kinds,
+    ) -> Self
+        ensures { result ≡ map Granting (grants_at place grantor table option grantees.now (kinds_in kinds)) }
     {
         Deeds {
-            grants,
-            revocation: None,
+            left: Left::Grants(Grants {
+                place,
+                grantor,
+                table,
+                option,
+                grantees,
+                kind: Kind::Read,
+                index: grantees.len(),
+                kinds,
+            }),
         }
     }
 
     /// The one revocation.
+    #[inline(always)]
     pub(crate) fn revoking(revocation: Revocation) -> Self
         ensures { result ≡ Revoking revocation ∷ [] }
     {
         Deeds {
-            grants: Grants::none(),
-            revocation: Some(revocation),
+            left: Left::Revocation(revocation),
         }
     }
 
     /// The first deed that is left, if one is, which is then left no more.
+    #[inline(always)]
     pub fn next(&mut self) -> Option<Deed>
         ensures { MatchOption result ((self.old ≡ []) × (self.new ≡ [])) (λ deed. self.old ≡ deed ∷ self.new) }
     {
-        if let Some(grant) = self.grants.next() {
-            return Some(Deed::Granting(grant));
-        }
-        match self.revocation.take() {
-            Some(revocation) => Some(Deed::Revoking(revocation)),
-            None => None,
+        match &mut self.left {
+            Left::Nothing => None,
+            Left::Grants(grants) => match grants.next() {
+                Some(grant) => Some(Deed::Granting(grant)),
+                None => None,
+            },
+            Left::Revocation(revocation) => {
+                let revocation = *revocation;
+                self.left = Left::Nothing;
+                Some(Deed::Revoking(revocation))
+            }
         }
     }
 }

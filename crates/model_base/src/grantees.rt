@@ -40,6 +40,7 @@ impl Grantees {
     ghost use Rattle.model_base.specs.Ranks.{position_code};
 
     /// The one grantee alone.
+    #[inline(always)]
     pub fn of(grantee: Grantee) -> Self
         ensures { result ≡ grantee ∷ [] }
     {

@@ -65,7 +65,7 @@ pub fn fewer_grants_keep_fewer()
         → IsPart standing wider → IsPart fewer more → IsPart (replayed owners standing fewer) (replayed owners wider more) }
 {}
 
-/// A grant that is out of force after some deeds is so after all deeds that follow, whose numbers lie above its rank.
+/// A grant that is out of force after some deeds is out of force after all deeds that follow, whose numbers lie above its rank.
 pub fn ended_grants_stay_ended()
     ensures above { (owners : List ℕ) (past later : List Deed) (ranked : ℕ)
         → All (λ deed. ranked < deed_number deed) later
@@ -75,8 +75,8 @@ pub fn ended_grants_stay_ended()
         → is_among (rank grant) (kept owners past) ≡ false → is_among (rank grant) (kept owners (past ++ later)) ≡ false }
 {}
 
-/// A grant ends none: it joins those in force if its grantor has the option, and what was held stays held. So the grantor of one that may follow
-/// holds the option by all deeds before it, not only by those below its place.
+/// A grant ends none: it joins those in force if its grantor has the option, and what was held stays held. So the grantor of one that may
+/// follow holds the option by all deeds before it, not only by those below its place.
 pub fn grants_end_none()
     ensures kept { (owners : List ℕ) (deeds : List Deed) (grant : Grant)
         → kept owners (deeds ++ Granting grant ∷ [])
@@ -105,8 +105,8 @@ pub fn causes_are_last_losses()
         → (cause owners deeds user need ≡ Taken place) ↔ IsLastLoss owners deeds user need place }
 {}
 
-/// The deeds of a statement have its place: grants with rising ranks, or one revocation. If its user holds what it needs, they may be made after
-/// deeds of lower places.
+/// The deeds of a statement have its place: grants with rising ranks, or one revocation. If its user holds what it needs, they may be made
+/// after deeds of lower places.
 pub fn statements_make_deeds_in_order()
     ensures placed { (place user : ℕ) (form : Form) → All (λ deed. place_of deed ≡ place) (deeds_of place user form) }
     ensures one { (place user : ℕ) (form : Form) → AreGrantsOrRevocation (deeds_of place user form) }
@@ -122,8 +122,8 @@ pub fn places_make_grants_or_one_revocation()
         → GrowsAt place (deeds_before log place) (deeds_before log (place + 1)) }
 {}
 
-/// The deeds before a place of a log are proper: their places rise, below this one, those of one place are grants in the order of their ranks, or
-/// one revocation, and each grantor held the option by the deeds of earlier places.
+/// The deeds before a place of a log are proper: their places rise, below this one, those of one place are grants in the order of their
+/// ranks, or one revocation, and each grantor held the option by the deeds of earlier places.
 pub fn deeds_before_are_proper()
     ensures proper { (log : List Statement) (place : ℕ) → IsProper (owners log) (deeds_before log place) }
     ensures below { (log : List Statement) (place : ℕ) → All (λ deed. place_of deed < place) (deeds_before log place) }

@@ -1,17 +1,15 @@
 //! What holds of the records of grants with their ends: they say of every list of deeds, and of every log, what the deeds say, also those
 //! of some tables alone, and at every earlier place.
 
-ghost use Rattle.std.specs.Prelude.{◌≡◌, ◌≢◌, ◌↔◌, ℕ, ◌<◌, ◌≤◌, Bool, true, false, Some, None, is_none, ◌&&◌, ◌||◌, All, Contains, List, ℤ, [], ◌∷◌, ◌++◌, length, filter, map};
+ghost use Rattle.std.specs.Prelude.{◌≡◌, ◌≢◌, ◌↔◌, ℕ, ◌<◌, ◌≤◌, Bool, true, Some, None, is_none, ◌&&◌, ◌||◌, All, Contains, List, ℤ, [], ◌∷◌, ◌++◌, length, filter, map};
 ghost use Rattle.std.specs.List.{list_any};
-ghost use Rattle.std.specs.Option.{option_map_or};
 ghost use Rattle.model_base.specs.Laws.{IsPart, IsRising};
 ghost use Rattle.model_base.specs.Outcomes.{cause, deeds_before, outcome, owners};
 ghost use Rattle.model_base.specs.OwnedTables.{AreOnOwnedTables};
 ghost use Rattle.model_base.specs.Ranks.{deed_number, rank};
-ghost use Rattle.model_base.specs.Privileges.{IsProper, concerns, deeds_below, ended_by, gives, holds, is_among, kept, option_of, owns, place_of, replayed};
-ghost use Rattle.model_base.specs.RecordGrantees.{WereGranted, grantee_at};
-ghost use Rattle.model_base.specs.Records.{covered, cut, end_after, ended_at, ended_by_records, grants_of, holds_by, in_force, last_loss_by, recorded, records};
-ghost use Rattle.model_base.specs.declared.deed.Cause.TheVariants.{Never, Taken};
+ghost use Rattle.model_base.specs.Privileges.{IsProper, concerns, deeds_below, ended_by, gives, holds, is_among, kept, option_of, owns, place_of};
+ghost use Rattle.model_base.specs.RecordGrantees.{WereGranted, grantee_at, log_records};
+ghost use Rattle.model_base.specs.Records.{IsRevokedIn, IsSelfBorne, TakesOutOfForce, cause_by, covered, cut, end_after, ended_at, ended_by_records, grants_of, holds_by, in_force, last_loss_by, recorded, records};
 ghost use Rattle.model_base.specs.declared.deed.Deed.TheVariants.{Granting, Revoking};
 ghost use Rattle.model_base.specs.declared.deed.Deed.{Deed};
 ghost use Rattle.model_base.specs.declared.deed.Grant.{Grant};
@@ -69,18 +67,14 @@ pub fn ends_are_revocations()
         → All (λ entry. (end : ℕ) → entry.end ≡ Some end → entry.grant.place < end) (records owners deeds) }
     ensures revocation { (owners : List ℕ) (deeds : List Deed)
         → IsProper owners deeds
-        → All (λ entry. (end : ℕ) → entry.end ≡ Some end
-        → (revocation : Revocation) × Contains deeds (Revoking revocation)
-        × (end ≡ revocation.place) × (concerns revocation entry.grant ≡ true))
-        (records owners deeds) }
+        → All (λ entry. (end : ℕ) → entry.end ≡ Some end → IsRevokedIn deeds entry.grant end) (records owners deeds) }
 {}
 
 /// The end of a grant is the place of the deed before which it is in force and after which it isn't.
 pub fn ends_are_losses()
     ensures { (owners : List ℕ) (past : List Deed) (deed : Deed) (later : List Deed) (ranked : ℕ)
         → IsProper owners (past ++ deed ∷ later)
-        → (end_after owners [] (past ++ deed ∷ later) ranked ≡ Some (place_of deed))
-        ↔ ((is_among ranked (kept owners past) ≡ true) × (is_among ranked (kept owners (past ++ deed ∷ [])) ≡ false)) }
+        → (end_after owners [] (past ++ deed ∷ later) ranked ≡ Some (place_of deed)) ↔ TakesOutOfForce owners past deed ranked }
 {}
 
 /// Each record was authorised when it was made: its grantor held the option by the deeds below its place, and by the records as they were
@@ -132,19 +126,16 @@ pub fn records_tell_what_revocations_end()
         → IsProper owners deeds → covers revocation.table ≡ true
         → ended_by_records owners (covered covers (records owners deeds)) revocation ≡ ended_by owners deeds revocation }
     ensures covered { (owners : List ℕ) (covers : ℕ → Bool) (entries : List Record) (revocation : Revocation)
-        → IsRising (in_force entries) → replayed owners [] (in_force entries) ≡ in_force entries
-        → covers revocation.table ≡ true
+        → IsRising (in_force entries) → IsSelfBorne owners entries → covers revocation.table ≡ true
         → ended_by_records owners (covered covers entries) revocation ≡ ended_by_records owners entries revocation }
     ensures concerned { (owners : List ℕ) (entries : List Record) (revocation : Revocation)
-        → IsRising (in_force entries) → replayed owners [] (in_force entries) ≡ in_force entries
+        → IsRising (in_force entries) → IsSelfBorne owners entries
         → ended_by_records owners (filter (λ entry. concerns revocation entry.grant) entries) revocation
         ≡ ended_by_records owners entries revocation }
     ensures stand { (owners : List ℕ) (deeds : List Deed)
-        → IsProper owners deeds
-        → replayed owners [] (in_force (records owners deeds)) ≡ in_force (records owners deeds) }
+        → IsProper owners deeds → IsSelfBorne owners (records owners deeds) }
     ensures stand_covered { (owners : List ℕ) (covers : ℕ → Bool) (entries : List Record)
-        → replayed owners [] (in_force entries) ≡ in_force entries
-        → replayed owners [] (in_force (covered covers entries)) ≡ in_force (covered covers entries) }
+        → IsSelfBorne owners entries → IsSelfBorne owners (covered covers entries) }
 {}
 
 /// The cause of a denial is the last loss by the records, counted down from any place above all deeds; by the deeds below
@@ -152,11 +143,10 @@ pub fn records_tell_what_revocations_end()
 pub fn causes_are_losses_by_records()
     ensures all { (owners : List ℕ) (deeds : List Deed) (user : ℕ) (need : Need) (place : ℕ)
         → IsProper owners deeds → All (λ deed. place_of deed < place) deeds
-        → cause owners deeds user need ≡ option_map_or Taken (last_loss_by owners (records owners deeds) user need place) Never }
+        → cause owners deeds user need ≡ cause_by owners (records owners deeds) place user need }
     ensures below { (owners : List ℕ) (deeds : List Deed) (user : ℕ) (need : Need) (place : ℕ)
         → IsProper owners deeds
-        → cause owners (deeds_below place deeds) user need
-        ≡ option_map_or Taken (last_loss_by owners (records owners deeds) user need place) Never }
+        → cause owners (deeds_below place deeds) user need ≡ cause_by owners (records owners deeds) place user need }
 {}
 
 /// Owners that are added after, of tables created later, change nothing for grants on the tables that there are. The grants of proper deeds
@@ -197,20 +187,19 @@ pub fn later_owners_change_nothing()
 /// place; and those of some tables say of these tables who held what, which grants a revocation ended, and the cause of a denial.
 pub fn records_tell_of_logs()
     ensures cut { (log : List Statement) (place later : ℕ) → place ≤ later
-        → records (owners log) (deeds_before log place) ≡ cut place (records (owners log) (deeds_before log later)) }
+        → log_records log place ≡ cut place (log_records log later) }
     ensures held { (log : List Statement) (covers : ℕ → Bool) (place later : ℕ) (user : ℕ) (need : Need)
         → place ≤ later → covers need.table ≡ true
-        → holds_by (owners log) (cut place (covered covers (records (owners log) (deeds_before log later)))) user need
+        → holds_by (owners log) (cut place (covered covers (log_records log later))) user need
         ≡ holds (owners log) (deeds_before log place) user need }
     ensures ended { (log : List Statement) (covers : ℕ → Bool) (place later : ℕ) (revocation : Revocation)
         → place ≤ later → covers revocation.table ≡ true
-        → ended_by_records (owners log) (cut place (covered covers (records (owners log) (deeds_before log later)))) revocation
+        → ended_by_records (owners log) (cut place (covered covers (log_records log later))) revocation
         ≡ ended_by (owners log) (deeds_before log place) revocation }
     ensures cause { (log : List Statement) (covers : ℕ → Bool) (place later : ℕ) (user : ℕ) (need : Need)
         → place ≤ later → covers need.table ≡ true
         → cause (owners log) (deeds_before log place) user need
-        ≡ option_map_or Taken
-        (last_loss_by (owners log) (covered covers (records (owners log) (deeds_before log later))) user need place) Never }
+        ≡ cause_by (owners log) (covered covers (log_records log later)) place user need }
 {}
 
 /// A record is to the grantee that the deed of its place names at its position; and a revocation ends only records of grants that were made

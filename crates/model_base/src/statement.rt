@@ -1,7 +1,7 @@
 //! The statements of a log.
 
-use crate::deed::{Grantee, Kind, Kinds, Position, Revocation};
-use crate::deeds::{Deeds, Grants};
+use crate::deed::{Grantee, Kinds, Position, Revocation};
+use crate::deeds::Deeds;
 use crate::grantees::Grantees;
 use crate::limits::{MOST_COLUMNS, MOST_REGISTERS};
 use crate::list::Items;
@@ -195,8 +195,8 @@ pub enum Step {
     },
 }
 
-/// Grants or a revocation as a statement names them; their grantor is the statement's user. A grant of several kinds to several grantees makes
-/// one of each kind to each of them.
+/// Grants or a revocation as a statement names them; their grantor is the statement's user. A grant of several kinds to several grantees
+/// makes one of each kind to each of them.
 #[derive(Clone, Copy, PartialEq, Eq, Debug)]
 pub enum DeedForm {
     Grant {
@@ -238,25 +238,17 @@ impl DeedForm {
     }
 
     /// The deeds of a user at a place.
-    pub fn deeds_at(&self, place: Place, user: User) -> Deeds
+    #[inline(always)]
+    pub fn deeds_at(&self, place: Place, user: User) -> Deeds<'_>
         ensures { result ≡ deeds_at place user self.now }
     {
-        match *self {
+        match self {
             DeedForm::Grant {
                 kinds,
                 table,
                 grantees,
                 option,
-            } => Deeds::granting(Grants {
-                place,
-                grantor: user,
-                table,
-                option,
-                grantees,
-                kind: Kind::Read,
-                index: grantees.len(),
-                kinds,
-            }),
+            } => Deeds::granting(place, user, *table, *option, grantees, *kinds),
             DeedForm::Revoke {
                 kinds,
                 table,
@@ -264,14 +256,15 @@ impl DeedForm {
             } => Deeds::revoking(Revocation {
                 place,
                 grantor: user,
-                grantees,
-                kinds,
-                table,
+                grantees: *grantees,
+                kinds: *kinds,
+                table: *table,
             }),
         }
     }
 
     /// The revocation of a user at a place, if it is one.
+    #[inline(always)]
     pub fn revocation_at(&self, place: Place, user: User) -> Option<Revocation>
         ensures { result ≡ revocation_of (deeds_at place user self.now) }
     {
@@ -366,7 +359,8 @@ impl Statement {
     }
 
     /// The deeds that the statement makes at a place, if its body completes. It doesn't allocate.
-    pub fn deeds_at(&self, place: Place) -> Deeds
+    #[inline(always)]
+    pub fn deeds_at(&self, place: Place) -> Deeds<'_>
         ensures { result ≡ deeds_of place self.now.user self.now.form }
     {
         match &self.form {
@@ -380,6 +374,7 @@ impl Statement {
     }
 
     /// The revocation that the statement makes at a place, if its body completes and its deed is one.
+    #[inline(always)]
     pub fn revocation_at(&self, place: Place) -> Option<Revocation>
         ensures { result ≡ revocation_of (deeds_of place self.now.user self.now.form) }
     {

@@ -5,7 +5,7 @@ use Rattle.model_base.specs.declared.outcome.Outcome.{Outcome}
 use Rattle.model_base.specs.Outcomes.{empty_world}
 use Rattle.model.specs.State.{world_of}
 use Rattle.model.proofs.Outcomes.{all_found, outcomes_from, slice_get-outcomes}
-use Rattle.model.proofs.serial_seeded.Goals as goal
+use Rattle.model.proofs.serial.Goals as goal
 
 pub returns : goal.returns
 returns c place =
