@@ -2,7 +2,7 @@
 ghost use Rattle.std.specs.Prelude.{◌≡◌};
 ghost use Rattle.line_io.specs.declared.fault.ReadFault.TheVariants.{NoMemory};
 
-use std::alloc::{AllocError, AllocFailed};
+use std::alloc::AllocError;
 use thiserror::Error;
 
 /// Why no further line was read.
@@ -21,14 +21,6 @@ impl From<AllocError> for ReadFault {
 
     fn from(_e: AllocError) -> ReadFault {
         ReadFault::NoMemory
-    }
-}
-
-impl<T: Drop> From<AllocFailed<T>> for ReadFault {
-    ghost from_gives = { λ _ e. e ≡ NoMemory };
-
-    fn from(_e: AllocFailed<T>) -> ReadFault {
-        ReadFault::from(AllocError)
     }
 }
 

@@ -102,7 +102,7 @@ impl MemoryWriter {
 impl Write for MemoryWriter {
     ghost contents = { λ w. Some w.taken.items };
 
-    /// Takes bytes off the front of `buf`. It fails also where memory is refused.
+    /// Takes bytes off the front of `buf`. It fails also where memory runs out.
     fn write(&mut self, buf: &[u8]) -> io::Result<usize>
         ensures bound { WritesAtMost result buf.now }
         ensures bytes { WriteAppends (Some self.old.taken.items) (Some self.new.taken.items) result buf.now }

@@ -2,7 +2,6 @@ pub mod Digits
 pub mod Plain
 pub mod Whole
 pub mod Splits
-pub mod PieceSplits
 pub mod NameTable
 pub mod NameWords
 pub mod Printable

@@ -7,7 +7,7 @@ use Rattle.std.proofs.lemmas.Bool.{and_parts, and_from, false_from_ne_true, case
 use Rattle.std.proofs.lemmas.Bool.Decides.{nat_tests}
 use Rattle.line_words.specs.Words.{first_word, is_name, is_name_byte, is_letter}
 use Rattle.line_words.specs.Words.{words_from}
-use Rattle.line_words.proofs.Splits.{next_word}
+use Rattle.line_words.proofs.Splits.{next_piece}
 
 no_space : (b : ℕ) → is_name_byte b ≡ true → eqb b 32 ≡ false
 no_space b e = grind (arith, nat_tests)
@@ -68,7 +68,7 @@ name_word line start end left view within value bound space =
     let n : end - start ≡ prefix_len is_name_byte rest = omega (arith, value) in
     let e : position_or_len (λ b. eqb b 32) rest ≡ prefix_len is_name_byte rest =
     ends_word rest (λ lt. get_or-drop start line (prefix_len is_name_byte rest) 0 ∙ ap (λ j. get_or line j 0) (sym value) ∙ space (omega arith)) in
-    (next_word line start end left view within (omega (arith, value, e)) bound, all_name_bytes rest (end - start) n)
+    (next_piece 32 line start end left view within (omega (arith, value, e)) bound, all_name_bytes rest (end - start) n)
 
 -- a word with a byte that can't be in a name
 pub foreign_word : (line : List ℕ) (start end : ℕ) (left : List (List ℕ)) → words_from start line ≡ left → start ≤ length line → end ≡ start + prefix_len is_name_byte (drop start line) → end < length line →
@@ -92,7 +92,7 @@ foreign_word line start end left view within value more ne =
     ] in
     let w = take q rest in
     let size : length w ≡ q = length-take-le q rest low in
-    let r : left ≡ take (start + q - start) rest ∷ words_from (start + q + 1) line = next_word line start (start + q) left view within refl (omega arith) in
+    let r : left ≡ take (start + q - start) rest ∷ words_from (start + q + 1) line = next_piece 32 line start (start + q) left view within refl (omega arith) in
     let same : start + q - start ≡ q = omega arith in
     ap (λ ws. is_name (first_word ws)) (r ∙ ap (λ n. take n rest ∷ words_from (start + q + 1) line) same)
     ∙ foreign_no_name w p (omega arith) (ap is_name_byte (get_or-take q rest p 0 beyond) ∙ stop)

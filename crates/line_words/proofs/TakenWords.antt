@@ -13,14 +13,14 @@ use Rattle.line_words.specs.declared.step_name.StepName.{StepName}
 use Rattle.line_words.specs.declared.step_name.StepName.TheVariants.{Const, Compute, Has, Load, Store, Insert, Delete, Check, Skip, Out}
 use Rattle.model_base.specs.declared.statement.Operation.TheVariants.{Add, Sub, Mul, Less, Same}
 use Rattle.line_words.proofs.Digits.{all_digits_more, digits_form, one_digit, own, value_more}
-use Rattle.line_words.proofs.Splits.{next_word, place_is}
+use Rattle.line_words.proofs.Splits.{next_piece, place_is}
 
 -- bytes without a space, up to one or to the line's end, are the next word
 pub taken_word : (line : List ℕ) (start end : ℕ) (left : List (List ℕ)) → words_from start line ≡ left → start ≤ end → end ≤ length line
     → ((k : ℕ) → start + k < end → eqb (get_or line (start + k) 0) 32 ≡ false) → (end < length line → get_or line end 0 ≡ 32)
     → left ≡ take (end - start) (drop start line) ∷ words_from (end + 1) line
 taken_word line start end left view behind within no_space space =
-    next_word line start end left view (omega arith) (place_is line 32 start end behind within no_space (λ lt. eq-eqb (get_or line end 0) 32 (space lt))) within
+    next_piece 32 line start end left view (omega arith) (place_is line 32 start end behind within no_space (λ lt. eq-eqb (get_or line end 0) 32 (space lt))) within
 
 -- one byte
 pub one_byte : (line : List ℕ) (start byte : ℕ) (left : List (List ℕ)) → words_from start line ≡ left → start < length line → get_or line start 0 ≡ byte

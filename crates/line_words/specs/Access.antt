@@ -25,7 +25,7 @@ access_word a = a.table ++ 58 ∷ (decimal a.row ++ 58 ∷ letters a.kinds)
 abbrev pub IsAccess : RawAccess → Type 0
 IsAccess a = IsTrue (is_name a.table) × (a.row < 2 ^ 32) × (letters a.kinds ≢ [])
 
--- the bytes of the word stand among these letters, in their order
+-- the bytes of the word are among these letters, in their order
 abbrev pub is_in_order : List ℕ → List ℕ → Bool
 is_in_order [] [] = true
 is_in_order [] (b ∷ bs) = false

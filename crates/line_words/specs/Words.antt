@@ -10,9 +10,13 @@ use Rattle.model_base.specs.Body.{fits_64_bits}
 abbrev pub words : List ℕ → List (List ℕ)
 words line = slice_split (λ b. b == 32) line
 
+-- the pieces between bytes of one value of a text from an index on, and none past its end
+abbrev pub split_from : ℕ → ℕ → List ℕ → List (List ℕ)
+split_from value start text = if nat_le start (length text) then slice_split (λ b. b == value) (drop start text) else []
+
 -- the words of a line from this index on, and none past its end
 abbrev pub words_from : ℕ → List ℕ → List (List ℕ)
-words_from start line = if nat_le start (length line) then words (drop start line) else []
+words_from start line = split_from 32 start line
 
 -- the pieces of a word between commas
 abbrev pub comma_pieces : List ℕ → List (List ℕ)
@@ -20,7 +24,7 @@ comma_pieces word = slice_split (λ b. b == 44) word
 
 -- the pieces of a word from this index on, and none past its end
 abbrev pub pieces_from : ℕ → List ℕ → List (List ℕ)
-pieces_from start word = if nat_le start (length word) then comma_pieces (drop start word) else []
+pieces_from start word = split_from 44 start word
 
 -- a word, or the empty one if there is none
 abbrev pub first_word : List (List ℕ) → List ℕ

@@ -2,19 +2,8 @@
 ghost use Rattle.std.specs.Prelude.{◌≡◌, ◌≢◌, ◌∷◌, List, ℕ, [], MatchBool, MatchOption};
 ghost use Rattle.line_words.specs.Words.{first_word, comma_pieces, pieces_from};
 
-use crate::word_list::place_from;
+use crate::word_list::piece_at;
 use std::marker::Model;
-
-/// The piece at an index of a word, and the index of the piece after it. None past the word's end.
-fn piece_at(word: &[u8], start: usize) -> Option<(&[u8], usize)>
-    ensures { MatchOption result (pieces_from start word.now ≡ []) (λ p. pieces_from start word.now ≡ p.0.now ∷ pieces_from p.1 word.now) }
-{
-    if start > word.len() {
-        return None;
-    }
-    let end = place_from(word, start, b',');
-    Some((&word[start..end], end + 1))
-}
 
 /// The pieces of a word that are left: those between single commas from an index of the word on. Past the word's end there are none.
 #[derive(Drop)]
@@ -48,7 +37,7 @@ impl<'a> Pieces<'a> {
     pub fn next(&mut self) -> Option<&'a [u8]>
         ensures { MatchOption result ((self.old ≡ []) × (self.new ≡ [])) (λ p. self.old ≡ p.now ∷ self.new) }
     {
-        let (piece, behind) = piece_at(self.word, self.start)?;
+        let (piece, behind) = piece_at(self.word, self.start, b',')?;
         self.start = behind;
         Some(piece)
     }
@@ -58,7 +47,7 @@ impl<'a> Pieces<'a> {
         requires { piece.now ≢ [] }
         ensures { MatchBool result (self.old ≡ piece.now ∷ self.new) ((self.new ≡ self.old) × (first_word self.old ≢ piece.now)) }
     {
-        let Some((next, behind)) = piece_at(self.word, self.start) else {
+        let Some((next, behind)) = piece_at(self.word, self.start, b',') else {
             return false;
         };
         if next != piece {

@@ -1,11 +1,11 @@
 //! The words of a line, one after another.
-ghost use Rattle.std.specs.Prelude.{◌≡◌, ◌≢◌, ◌+◌, ◌-◌, ◌<◌, ◌≤◌, ◌==◌, ◌^◌, ◌++◌, List, ℕ, [], ◌∷◌, codes, decimal, drop, false, true, length, slice_index_or, take, MatchBool, MatchOption};
+ghost use Rattle.std.specs.Prelude.{◌≡◌, ◌≢◌, ◌+◌, ◌-◌, ◌<◌, ◌≤◌, ◌==◌, ◌^◌, ◌++◌, List, ℕ, [], ◌∷◌, codes, decimal, drop, false, not, true, length, slice_index_or, take, MatchBool, MatchOption};
 ghost use Rattle.std.specs.Bool.{OnTrue};
-ghost use Rattle.std.specs.List.{position_or_len, prefix_len};
+ghost use Rattle.std.specs.List.{list_all, position_or_len, prefix_len};
 ghost use Rattle.std.specs.Str.Parse.{AllDigits, digits_value};
 ghost use Rattle.line_words.specs.Access.{IsAccess, access_word, letter_if};
 ghost use Rattle.line_words.specs.StepWords.{step_word};
-ghost use Rattle.line_words.specs.Words.{words, words_from, first_word, is_name, is_name_byte};
+ghost use Rattle.line_words.specs.Words.{words, words_from, split_from, first_word, is_name, is_name_byte};
 
 use crate::access::RawAccess;
 use crate::name::{Name, may_be_in_name};
@@ -137,16 +137,17 @@ fn digits_from(line: &[u8], start: usize) -> (u32, usize)
     (value, place)
 }
 
-/// The word at an index of a line, and the index of the word after it. None past the line's end.
+/// The piece between bytes of a value at an index of a text, and the index of the piece after it. None past the text's end.
 #[inline(never)]
-fn word_at(line: &[u8], start: usize) -> Option<(&[u8], usize)>
-    ensures { MatchOption result (words_from start line.now ≡ []) (λ w. words_from start line.now ≡ w.0.now ∷ words_from w.1 line.now) }
+pub(crate) fn piece_at(text: &[u8], start: usize, value: u8) -> Option<(&[u8], usize)>
+    ensures { MatchOption result (split_from value start text.now ≡ [])
+        (λ p. split_from value start text.now ≡ p.0.now ∷ split_from value p.1 text.now) }
 {
-    if start > line.len() {
+    if start > text.len() {
         return None;
     }
-    let end = place_from(line, start, b' ');
-    Some((&line[start..end], end + 1))
+    let end = place_from(text, start, value);
+    Some((&text[start..end], end + 1))
 }
 
 /// The number of two to nine digits that is the word at an index of a line, in decimal form, and the index after it, or that index itself
@@ -240,7 +241,7 @@ impl<'a> Words<'a> {
     pub fn next(&mut self) -> Option<&'a [u8]>
         ensures { MatchOption result ((self.old ≡ []) × (self.new ≡ [])) (λ w. self.old ≡ w.now ∷ self.new) }
     {
-        let (word, behind) = word_at(self.line, self.start)?;
+        let (word, behind) = piece_at(self.line, self.start, b' ')?;
         self.start = behind;
         Some(word)
     }
@@ -250,7 +251,7 @@ impl<'a> Words<'a> {
     pub fn first(&self) -> Option<&'a [u8]>
         ensures { MatchOption result (self.now ≡ []) (λ w. (left : List (List ℕ)) × (self.now ≡ w.now ∷ left)) }
     {
-        let (word, _behind) = word_at(self.line, self.start)?;
+        let (word, _behind) = piece_at(self.line, self.start, b' ')?;
         Some(word)
     }
 
@@ -288,16 +289,8 @@ impl<'a> Words<'a> {
             self.start = start + 2;
             return Some(u32::from(first - b'0'));
         }
-        self.next_long_number()
-    }
-
-    /// Takes a number of two to nine digits, as `next_number`.
-    #[inline(always)]
-    fn next_long_number(&mut self) -> Option<u32>
-        ensures { MatchOption result (self.new ≡ self.old) (λ n. (self.old ≡ decimal n ∷ self.new) × (n < 2 ^ 32)) }
-    {
-        let (number, end) = long_number_at(self.line, self.start);
-        if end == self.start {
+        let (number, end) = long_number_at(self.line, start);
+        if end == start {
             return None;
         }
         self.start = end + 1;
@@ -349,17 +342,17 @@ impl<'a> Words<'a> {
         true
     }
 
-    /// Takes the next word, if it is this name and another follows; otherwise the words stay as they are. The bytes are compared together.
+    /// Takes the next word, if it is this one and another follows; otherwise the words stay as they are. The bytes are compared together.
     #[inline(always)]
-    pub fn next_same(&mut self, name: &Name<'_>) -> bool
-        ensures { MatchBool result (self.old ≡ name.now ∷ self.new) (self.new ≡ self.old) }
+    pub fn next_is(&mut self, word: &[u8]) -> bool
+        requires { list_all (λ b. not (b == 32)) word.now ≡ true }
+        ensures { MatchBool result (self.old ≡ word.now ∷ self.new) (self.new ≡ self.old) }
     {
         let start = self.start;
         if start > self.line.len() {
             return false;
         }
         let text = &self.line[start..];
-        let word = name.as_str().as_bytes();
         if text.len() <= word.len() || text[word.len()] != b' ' {
             return false;
         }
@@ -368,6 +361,14 @@ impl<'a> Words<'a> {
         }
         self.start = start + word.len() + 1;
         true
+    }
+
+    /// Takes the next word, if it is this name and another follows, as `next_is`.
+    #[inline(always)]
+    pub fn next_same(&mut self, name: &Name<'_>) -> bool
+        ensures { MatchBool result (self.old ≡ name.now ∷ self.new) (self.new ≡ self.old) }
+    {
+        self.next_is(name.as_str().as_bytes())
     }
 
     /// Takes the word of a step, if the next word is one and others follow; otherwise the words stay as they are. It doesn't look for

@@ -186,6 +186,12 @@ one_in w none is = in_word w (ap (grantees_fault []) (one_piece w none) ∙ one_
 pub name_in : (w : List ℕ) → is_name w ≡ true → AreGrantees (grantees_written w)
 name_in w is = one_in w (name_no_comma w is) (ap (λ b. b || is_public w) is)
 
+-- the word of a name is that of the one user
+pub name_alone : (w : List ℕ) → is_name w ≡ true → grantees_written w ≡ Named w ∷ []
+name_alone w is =
+    ap grantees_named (one_piece w (name_no_comma w is))
+    ∙ ap (λ (g : RawGrantee). g ∷ []) (cond-false (bytes_eq w (codes "PUBLIC")) Public (Named w) (name_is_not_public w is))
+
 pub public_in : (w : List ℕ) → w ≡ codes "PUBLIC" → AreGrantees (grantees_written w)
 public_in w is = subst (λ v. AreGrantees (grantees_written v)) (sym is) (one_in (codes "PUBLIC") refl refl)
 

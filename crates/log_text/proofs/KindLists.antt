@@ -1,5 +1,5 @@
 -- The words that list kinds.
-use Rattle.std.proofs.Common.{MatchBool, ◌≡◌, ◌≢◌, ℕ, ◌≤◌, Bool, true, false, List, [], ◌∷◌, ◌++◌, length, map, refl, ap, sym, ◌∙◌, inl, inr, Some, None, subst, arith}
+use Rattle.std.proofs.Common.{MatchBool, ◌≡◌, ◌≢◌, ℕ, ◌≤◌, ◌||◌, Bool, true, false, List, [], ◌∷◌, ◌++◌, length, map, refl, ap, sym, ◌∙◌, inl, inr, Some, None, subst, arith}
 use Rattle.std.specs.Prelude.{bytes_eq, codes, is_some, if◌then◌else◌}
 use Rattle.std.specs.List.{list_any, AllByRecursion, join_with_byte}
 use Rattle.std.proofs.lemmas.List.{append-nil, length-map}
@@ -14,7 +14,7 @@ use Rattle.model_base.specs.declared.deed.Kinds.{Kinds}
 use Rattle.model_base.specs.Outcomes.{kinds_in}
 use Rattle.model_base.specs.Privileges.{only}
 use Rattle.log_text.specs.Statement.{kind_word, kinds_word}
-use Rattle.log_text.specs.Versions.{MayHaveParts, parts_of}
+use Rattle.log_text.specs.Versions.{MayHaveParts, has_lists, parts_of}
 use Rattle.log_text.specs.Fault.{OfKinds, kind_named, kind_words, misfit, stand_among}
 use Rattle.log_text.proofs.KindWords.{named_kind}
 use Rattle.log_text.proofs.Parts.{HasNoComma, join_of_parts, may_be_parts, parts_of_join, pieces_of_join, some_part}
@@ -208,6 +208,31 @@ only_in Read = refl
 only_in Insert = refl
 only_in Update = refl
 only_in Delete = refl
+
+-- and its word, which fits where kinds stand
+only_word : (k : Kind) → kinds_word (only k) ≡ kind_word k
+only_word Read = refl
+only_word Insert = refl
+only_word Update = refl
+only_word Delete = refl
+
+only_may : (version : ℕ) (k : Kind) → MayHaveParts version (length (kinds_in (only k)))
+only_may version k = subst (λ (ks : List Kind). MayHaveParts version (length ks)) (sym (only_in k)) (or_true (has_lists version))
+  where
+    or_true : (b : Bool) → (b || true) ≡ true
+    or_true true = refl
+    or_true false = refl
+
+pub only_taken : (version : ℕ) (k : Kind) (old new : List (List ℕ)) → old ≡ kind_word k ∷ new
+    → (old ≡ kinds_word (only k) ∷ new) × (1 ≤ length (kinds_in (only k))) × MayHaveParts version (length (kinds_in (only k)))
+    × (misfit (OfKinds version) (kinds_word (only k)) ≡ None)
+only_taken version k old new taken =
+    let some : 1 ≤ length (kinds_in (only k)) = omega (arith, ap length (only_in k)) in (
+      taken ∙ ap (λ (w : List ℕ). w ∷ new) (sym (only_word k)),
+      some,
+      only_may version k,
+      kinds_fit version (only k) some (only_may version k),
+    )
 
 -- the word of a kind, as a list
 pub one_kind : (w : List ℕ) (k : Kind) → kind_named w ≡ Some k → (w ∷ [] ≡ map kind_word (kinds_in (only k))) × (stand_among kind_words (w ∷ []) ≡ true)

@@ -65,7 +65,7 @@ kind_named w =
 abbrev pub kind_words : List (List ℕ)
 kind_words = codes "READ" ∷ codes "INSERT" ∷ codes "UPDATE" ∷ codes "DELETE" ∷ []
 
--- the words stand among these, in their order
+-- the words are among these, in their order
 abbrev pub stand_among : List (List ℕ) → List (List ℕ) → Bool
 stand_among [] [] = true
 stand_among [] (w ∷ ws) = false

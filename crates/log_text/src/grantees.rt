@@ -30,22 +30,28 @@ impl<'a> RawGrantee<'a> {
 #[derive(Drop)]
 pub struct RawGrantees<'a> {
     word: &'a str,
+    /// Whether the word is known to be one name.
+    is_one: bool,
 }
 
 impl<'a> Model for RawGrantees<'a> {
     ghost use Rattle.std.specs.Prelude.{List};
     ghost use Rattle.log_text.specs.declared.grantees.RawGrantee.{RawGrantee};
     ghost use Rattle.log_text.specs.Grantees.{grantees_written, AreGrantees};
+    ghost use Rattle.std.specs.Prelude.{◌≡◌, IsTrue, true};
+    ghost use Rattle.line_words.specs.Words.{is_name};
 
     ghost Value = { List RawGrantee };
 
     ghost view = { λ g. grantees_written g.word.now };
 
-    ghost invariant = { λ g. AreGrantees (grantees_written g.word.now) };
+    ghost invariant = { λ g. AreGrantees (grantees_written g.word.now) × (g.is_one ≡ true → IsTrue (is_name g.word.now)) };
 }
 
 impl<'a> RawGrantees<'a> {
-    ghost use Rattle.std.specs.Prelude.{◌≡◌};
+    ghost use Rattle.std.specs.Prelude.{◌≡◌, ◌∷◌, [], IfSome, IsTrue};
+    ghost use Rattle.line_words.specs.Words.{is_name};
+    ghost use Rattle.log_text.specs.declared.grantees.RawGrantee.TheVariants.{Named};
     ghost use Rattle.std.specs.List.{list_any};
     ghost use Rattle.log_text.specs.Grantees.{grantees_written, grantees_word, is_everyone, AreGrantees};
 
@@ -57,7 +63,35 @@ impl<'a> RawGrantees<'a> {
     {
         // SAFETY: the bytes of names, of PUBLIC and of commas are ASCII.
         let word = unsafe { str::from_utf8_unchecked(word) };
-        RawGrantees { word }
+        RawGrantees {
+            word,
+            is_one: false,
+        }
+    }
+
+    /// The grantee of a name alone.
+    #[inline(always)]
+    pub(crate) fn of_name(word: &'a [u8]) -> RawGrantees<'a>
+        requires { IsTrue (is_name word.now) }
+        ensures { result ≡ grantees_written word.now }
+    {
+        let name = Name::of(word);
+        RawGrantees {
+            word: name.as_str(),
+            is_one: true,
+        }
+    }
+
+    /// The name of the only grantee. None where there are several, or PUBLIC is one, or that isn't known.
+    #[inline(always)]
+    #[tactic(auto, using(crate::proofs::GranteeLists::name_alone))]
+    pub fn only_name(&self) -> Option<Name<'a>>
+        ensures { IfSome result (λ name. self.now ≡ Named name ∷ []) }
+    {
+        if self.is_one {
+            return Some(Name::of(self.word.as_bytes()));
+        }
+        None
     }
 
     /// Their word.
@@ -68,7 +102,18 @@ impl<'a> RawGrantees<'a> {
     }
 
     /// Whether PUBLIC is one of them.
+    #[inline(always)]
     pub(crate) fn has_public(&self) -> bool
+        ensures { result ≡ list_any is_everyone self.now }
+    {
+        match self.only_name() {
+            Some(_) => false,
+            None => self.lists_public(),
+        }
+    }
+
+    /// Whether PUBLIC is one of them, as `has_public`, where it isn't known.
+    fn lists_public(&self) -> bool
         ensures { result ≡ list_any is_everyone self.now }
     {
         let mut left = Pieces::of(self.word.as_bytes());

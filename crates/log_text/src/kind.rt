@@ -1,10 +1,10 @@
 //! The words of the four kinds.
-ghost use Rattle.std.specs.Prelude.{◌≡◌, ◌∷◌, [], map, false, true, MatchOption};
+ghost use Rattle.std.specs.Prelude.{◌≡◌, ◌∷◌, []};
 ghost use Rattle.line_words.specs.Words.{comma_pieces};
-ghost use Rattle.model_base.specs.Outcomes.{kinds_in};
 ghost use Rattle.log_text.specs.Statement.{kind_word};
 ghost use Rattle.log_text.specs.Versions.{parts_of, version_number};
-ghost use Rattle.log_text.specs.Fault.{kind_named, kind_words, stand_among};
+ghost use Rattle.log_text.specs.Fault.{kind_named};
+ghost use Rattle.log_text.specs.Parsing.{NameKinds};
 
 use crate::version::Version;
 use line_words::Pieces;
@@ -23,6 +23,7 @@ pub fn kind_word(kind: Kind) -> &'static str
 }
 
 /// The kind that a word names.
+#[inline(always)]
 #[tactic(auto, using(crate::proofs::KindWords::named_insert, crate::proofs::KindWords::named_update, crate::proofs::KindWords::named_delete))]
 pub(crate) fn kind_of(word: &[u8]) -> Option<Kind>
     ensures { result ≡ kind_named word.now }
@@ -37,9 +38,9 @@ pub(crate) fn kind_of(word: &[u8]) -> Option<Kind>
 }
 
 /// The kinds whose words the pieces of a word are, in order.
+#[inline(never)]
 fn listed_kinds(word: &[u8]) -> Option<Kinds>
-    ensures { MatchOption result (stand_among kind_words (comma_pieces word.now) ≡ false)
-        (λ k. (comma_pieces word.now ≡ map kind_word (kinds_in k)) × (stand_among kind_words (comma_pieces word.now) ≡ true)) }
+    ensures { NameKinds result (comma_pieces word.now) }
 {
     let mut left = Pieces::of(word);
     let read = left.takes(b"READ");
@@ -58,10 +59,10 @@ fn listed_kinds(word: &[u8]) -> Option<Kinds>
 }
 
 /// The one kind whose word a word is.
+#[inline(always)]
 #[tactic(auto, using(crate::proofs::KindLists::one_kind, crate::proofs::KindLists::no_kind))]
 fn one_kind(word: &[u8]) -> Option<Kinds>
-    ensures { MatchOption result (stand_among kind_words (word.now ∷ []) ≡ false)
-        (λ k. (word.now ∷ [] ≡ map kind_word (kinds_in k)) × (stand_among kind_words (word.now ∷ []) ≡ true)) }
+    ensures { NameKinds result (word.now ∷ []) }
 {
     match kind_of(word) {
         Some(kind) => Some(Kinds::only(kind)),
@@ -70,10 +71,9 @@ fn one_kind(word: &[u8]) -> Option<Kinds>
 }
 
 /// The kinds that a word lists.
+#[inline(always)]
 pub(crate) fn kinds_of(version: Version, word: &[u8]) -> Option<Kinds>
-    ensures { MatchOption result (stand_among kind_words (parts_of (version_number version) word.now) ≡ false)
-        (λ k. (parts_of (version_number version) word.now ≡ map kind_word (kinds_in k))
-        × (stand_among kind_words (parts_of (version_number version) word.now) ≡ true)) }
+    ensures { NameKinds result (parts_of (version_number version) word.now) }
 {
     match version {
         Version::One => one_kind(word),

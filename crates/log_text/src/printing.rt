@@ -65,7 +65,7 @@ fn operation_word(operation: Operation) -> &'static str
     }
 }
 
-/// Appends a bar, and a step that puts what it computes of two registers into a third.
+/// Appends a bar, and a step that sets a register to what it computes of two.
 fn push_operation(
     text: &mut String,
     operation: Operation,

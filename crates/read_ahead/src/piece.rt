@@ -115,7 +115,7 @@ impl Piece {
         self.lines.truncate(self.len);
     }
 
-    /// Appends a line to the others. False where memory was refused, and then nothing has changed.
+    /// Appends a line to the others. False where memory ran out, and then nothing has changed.
     pub(crate) fn put(&mut self, line: Ahead) -> bool
         ensures { self.new ≡ (if result then self.old ++ line ∷ [] else self.old) }
     {

@@ -12,8 +12,8 @@ use std::alloc::Global;
 /// How many lines of a piece are read before their turn, at most: what they become is kept until then.
 pub const MOST_LINES_AHEAD: usize = 4096;
 
-/// Reads the line that begins at an index of the bytes, puts what was found of it after the others of the piece, and returns how many bytes
-/// it takes. None where no line is whole there, or where memory was refused.
+/// Reads the line that begins at an index of the bytes, appends what was found of it to the piece, and returns how many bytes
+/// it takes. None where no line is whole there, or where memory ran out.
 fn read_next<'a>(
     catalog: &Catalog,
     bytes: &'a [u8],
@@ -40,7 +40,7 @@ fn read_next<'a>(
 
 /// Reads the lines that begin from one index of the bytes on and before another, where a line begins at the first, and numbers
 /// their statements by these names. It leaves the catalog as it is. It reads no more than `MOST_LINES_AHEAD`, and ends early
-/// where memory is refused. What the piece held is of no more use.
+/// where memory runs out. What the piece held is of no more use.
 fn read_lines<'a>(
     catalog: &Catalog,
     bytes: &'a [u8],

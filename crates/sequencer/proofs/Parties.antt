@@ -197,6 +197,15 @@ module _ (old start : List (List ℕ)) (all rest : List RawGrantee) (grantee : R
     refused_both h.refusals passes,
   )
 
+-- the only grantee is entered
+pub only_entered : (old new : List (List ℕ)) (all : List RawGrantee) (name : List ℕ) (number : ℕ) → all ≡ RawGrantee.Named name ∷ [] → new ≡ with_name old name
+    → number ≡ number_of old name → Grantee.User number ∷ [] ≡ map (numbered_grantee new) all
+only_entered old new all name number only named is =
+    rw (only, named) (ap (λ (n : ℕ). Grantee.User n ∷ []) (is ∙ sym (known_number_stays old name)))
+
+pub only_begins : (old : List (List ℕ)) (name : List ℕ) → take (length old) (with_name old name) ≡ old
+only_begins old name = first_named old old name (take-length old)
+
 -- a user is entered before them, and is forgotten with them
 pub forgotten : (old one later last : List (List ℕ)) (user : List ℕ) (count : ℕ) → one ≡ with_name old user → take (length one) later ≡ one
     → count ≡ length old → last ≡ take count later → last ≡ old

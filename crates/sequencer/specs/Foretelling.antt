@@ -7,8 +7,8 @@ use Rattle.log_text.specs.Statement.{Sentence}
 use Rattle.log_text.specs.declared.grantees.RawGrantee.{RawGrantee}
 use Rattle.log_text.specs.declared.statement.RawDeed.{RawDeed}
 use Rattle.log_text.specs.declared.statement.RawForm.{RawForm}
-use Rattle.sequencer.specs.Names.{is_known}
-use Rattle.sequencer.specs.Catalog.{Names, raw_grantees, numbered, with_statement}
+use Rattle.sequencer.specs.Names.{is_known, number_of}
+use Rattle.sequencer.specs.Catalog.{Names, raw_grantees, numbered, numbered_form, with_statement}
 use Rattle.sequencer.specs.Refusal.{accesses_refusal, deed_refusal, refusal, steps_refusal}
 
 -- the names of a later place begin with these: its first users are these, and so are its first tables with their owners and
@@ -42,6 +42,13 @@ pub record IsForetold (later : Names) (sentence : Sentence) (statement : Stateme
 abbrev pub Foretells : Names → Sentence → Statement → Type 0
 Foretells names sentence statement =
     (later : Names) → Begins names later → later.places < MOST_PLACES → IsForetold later sentence statement
+
+-- a sentence by number that names nobody and nothing new
+abbrev pub foretold_as : Names → Sentence → Statement
+foretold_as names sentence = record {
+  user = number_of names.users sentence.user;
+  form = numbered_form names sentence.form;
+}
 
 -- a grantee is PUBLIC or a known user
 abbrev pub is_known_grantee : List (List ℕ) → RawGrantee → Bool

@@ -5,7 +5,7 @@ ghost use Rattle.log_text.specs.LineBuffers.{sentence_of};
 ghost use Rattle.log_text.specs.Statement.{IsInGrammar};
 ghost use Rattle.sequencer.specs.Names.{number_of};
 ghost use Rattle.sequencer.specs.Catalog.{numbered, numbered_deed, with_statement, with_users};
-ghost use Rattle.sequencer.specs.Admitting.{create_by, deed_by, entry_refusal, run_sentence};
+ghost use Rattle.sequencer.specs.Admitting.{Admits, create_by, deed_by, entry_refusal, run_sentence};
 ghost use Rattle.sequencer.specs.Known.{HasRoom};
 ghost use Rattle.sequencer.specs.Whole.{HasFilledRows, IsAccepted};
 ghost use Rattle.sequencer.specs.Refusal.{IsRefusal, refusal};
@@ -21,8 +21,9 @@ use model_base::{DeedForm, Form, MOST_PLACES, Statement, Table, User};
 use std::mem;
 
 impl Catalog {
-    /// Enters the user of a statement and then the grantees of its deed, and returns them by number. The deed's table has to be known. After
-    /// a refusal nothing has changed.
+    /// Enters the user of a statement and then the grantees of its deed, and returns them by number. The deed's table has to be known.
+    /// After a refusal nothing has changed.
+    #[inline(always)]
     #[tactic(auto, using(crate::proofs::RefusalLemmas::refusal_of_test))]
     fn enter_deed(
         &mut self,
@@ -44,6 +45,7 @@ impl Catalog {
     }
 
     /// Enters the user of a statement, and then the grantees of its deed where it has one, as `enter_deed`.
+    #[inline(always)]
     fn enter_users(
         &mut self,
         user: &Name<'_>,
@@ -81,12 +83,7 @@ impl Catalog {
         requires kept { vec_len kept.old < vec_capacity kept.old }
         requires place { self.old.places < MOST_PLACES }
         requires room { HasRoom room.old (run_sentence run.now).form }
-        ensures ok { OnOk result (kept.new.items ≡ kept.old.items ++ numbered self.old (run_sentence run.now) ∷ []) }
-        ensures passes { OnOk result (refusal self.old (run_sentence run.now) ≡ None) }
-        ensures names { OnOk result (self.new ≡ with_statement self.old (run_sentence run.now)) }
-        ensures refused { IfErr result (λ r. IsRefusal r (refusal self.old (run_sentence run.now))) }
-        ensures err { OnErr result (self.new ≡ self.old) }
-        ensures none { OnErr result (kept.new.items ≡ kept.old.items) }
+        ensures { Admits (run_sentence run.now) result self.old self.new kept.old.items kept.new.items }
     {
         let mut recent = self.recent;
         let found = mem::replace(&mut room.accesses, Vec::new(self.alloc));
@@ -116,12 +113,7 @@ impl Catalog {
     ) -> Result<(), Refused>
         requires kept { vec_len kept.old < vec_capacity kept.old }
         requires place { self.old.places < MOST_PLACES }
-        ensures ok { OnOk result (kept.new.items ≡ kept.old.items ++ numbered self.old (deed_by user.now deed.now) ∷ []) }
-        ensures passes { OnOk result (refusal self.old (deed_by user.now deed.now) ≡ None) }
-        ensures names { OnOk result (self.new ≡ with_statement self.old (deed_by user.now deed.now)) }
-        ensures refused { IfErr result (λ r. IsRefusal r (refusal self.old (deed_by user.now deed.now))) }
-        ensures err { OnErr result (self.new ≡ self.old) }
-        ensures none { OnErr result (kept.new.items ≡ kept.old.items) }
+        ensures { Admits (deed_by user.now deed.now) result self.old self.new kept.old.items kept.new.items }
     {
         let (user, deed) = self.enter_deed(user, deed)?;
         self.places += 1;
@@ -181,12 +173,7 @@ impl Catalog {
     ) -> Result<(), Refused>
         requires kept { vec_len kept.old < vec_capacity kept.old }
         requires place { self.old.places < MOST_PLACES }
-        ensures ok { OnOk result (kept.new.items ≡ kept.old.items ++ numbered self.old (create_by user.now table.now columns) ∷ []) }
-        ensures passes { OnOk result (refusal self.old (create_by user.now table.now columns) ≡ None) }
-        ensures names { OnOk result (self.new ≡ with_statement self.old (create_by user.now table.now columns)) }
-        ensures refused { IfErr result (λ r. IsRefusal r (refusal self.old (create_by user.now table.now columns))) }
-        ensures err { OnErr result (self.new ≡ self.old) }
-        ensures none { OnErr result (kept.new.items ≡ kept.old.items) }
+        ensures { Admits (create_by user.now table.now columns) result self.old self.new kept.old.items kept.new.items }
     {
         self.test_create(table, columns)?;
         test_name(&self.users, user.as_str())?;

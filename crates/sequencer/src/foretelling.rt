@@ -2,8 +2,8 @@
 
 ghost use Rattle.std.specs.Prelude.{◌≡◌, ◌<◌, ◌+◌, IfSome, OnErr, OnOk, OnSome, length, map, true};
 ghost use Rattle.sequencer.specs.Admitting.{deed_by, run_sentence};
-ghost use Rattle.sequencer.specs.Catalog.{numbered_deed, numbered_form, numbered_grantee};
-ghost use Rattle.sequencer.specs.Foretelling.{Begins, Foretells, Knows, KnowsDeed, KnowsDeedIn, is_known_grantee, with_one_place, with_tables_of};
+ghost use Rattle.sequencer.specs.Catalog.{numbered_deed, numbered_grantee};
+ghost use Rattle.sequencer.specs.Foretelling.{Begins, Foretells, Knows, KnowsDeed, KnowsDeedIn, foretold_as, is_known_grantee, with_one_place, with_tables_of};
 ghost use Rattle.sequencer.specs.Known.{HasRoom};
 ghost use Rattle.sequencer.specs.Names.{is_known, number_of};
 ghost use Rattle.std.specs.List.{AllByRecursion};
@@ -114,10 +114,7 @@ impl Catalog {
         room: &mut StatementBuffers,
     ) -> Option<Statement>
         requires { HasRoom room.old (run_sentence run.now).form }
-        ensures number { IfSome result (λ s. s ≡ record {
-          user = number_of self.now.users run.now.user.now;
-          form = numbered_form self.now (run_sentence run.now).form;
-        }) }
+        ensures number { IfSome result (λ s. s ≡ foretold_as self.now (run_sentence run.now)) }
         ensures knows { OnSome result (Knows self.now (run_sentence run.now)) }
     {
         let user = self.foretold_user(recent, run.user)?;
@@ -147,10 +144,7 @@ impl Catalog {
         user: &Name<'_>,
         deed: &RawDeed<'_>,
     ) -> Option<Statement>
-        ensures number { IfSome result (λ s. s ≡ record {
-          user = number_of self.now.users user.now;
-          form = numbered_form self.now (RawForm.Deed deed.now);
-        }) }
+        ensures number { IfSome result (λ s. s ≡ foretold_as self.now (deed_by user.now deed.now)) }
         ensures knows { OnSome result (Knows self.now (deed_by user.now deed.now)) }
     {
         let user = self.foretold_user(recent, user)?;
@@ -161,7 +155,7 @@ impl Catalog {
 
     /// The statement that a sentence becomes at any later place of the log, whatever is accepted before: it passes the tests, makes no
     /// table, and names nobody new. Nothing is returned where a test refuses it by these names, where it makes a table or names somebody
-    /// new, or where memory is refused; that promises nothing of it. It leaves the catalog as it is, so several threads may ask one
+    /// new, or where memory runs out; that promises nothing of it. It leaves the catalog as it is, so several threads may ask one
     /// catalog. Room is lent as to `admit`.
     pub fn foretell(
         &self,

@@ -4,7 +4,7 @@ ghost use Rattle.std.specs.Prelude.{◌≡◌, ◌≤◌, ◌++◌, drop, length
 
 use crate::past::Past;
 
-/// Drops the first items of those that are kept, this many, and puts them after those that were dropped before. It doesn't allocate, and
+/// Drops the first items of those that are kept, this many, and appends them to those that were dropped before. It doesn't allocate, and
 /// costs what there is to drop and to move.
 #[tactic(auto, using(crate::proofs::Rotated::first_gone))]
 pub fn forget_first<T: Drop>(past: &mut Past<T>, kept: &mut Vec<T>, count: usize)

@@ -194,8 +194,8 @@ impl NameTable {
         }
     }
 
-    /// A grantee by its number, which is there already or is entered last. PUBLIC isn't entered. It refuses as `enter`, and then nothing has
-    /// changed.
+    /// A grantee by its number, which is there already or is entered last. PUBLIC isn't entered. It refuses as `enter`, and then nothing
+    /// has changed.
     fn enter_grantee(&mut self, grantee: &RawGrantee<'_>) -> Result<Grantee, Refused>
         ensures grantee { IfOk result (λ g. g ≡ numbered_grantee self.old grantee.now) }
         ensures entered { OnOk result (self.new ≡ with_named self.old grantee.now) }
@@ -212,7 +212,8 @@ impl NameTable {
     }
 
     /// Grantees by their numbers, from left to right, each as `enter_grantee`. After a refusal the first of them may be entered.
-    fn enter_grantees(&mut self, grantees: &RawGrantees<'_>) -> Result<Grantees, Refused>
+    #[inline(never)]
+    fn enter_listed(&mut self, grantees: &RawGrantees<'_>) -> Result<Grantees, Refused>
         ensures grantees { IfOk result (λ gs. gs ≡ map (numbered_grantee self.new) grantees.now) }
         ensures entered { OnOk result (self.new ≡ with_all_named self.old grantees.now) }
         ensures passes { OnOk result (named_refusals self.old grantees.now ≡ None) }
@@ -227,8 +228,24 @@ impl NameTable {
         Ok(found)
     }
 
+    /// Grantees by their numbers, as `enter_listed`. Mostly there is one, of a name.
+    #[inline(always)]
+    fn enter_grantees(&mut self, grantees: &RawGrantees<'_>) -> Result<Grantees, Refused>
+        ensures grantees { IfOk result (λ gs. gs ≡ map (numbered_grantee self.new) grantees.now) }
+        ensures entered { OnOk result (self.new ≡ with_all_named self.old grantees.now) }
+        ensures passes { OnOk result (named_refusals self.old grantees.now ≡ None) }
+        ensures begins { take (length self.old) self.new ≡ self.old }
+    {
+        let Some(name) = grantees.only_name() else {
+            return self.enter_listed(grantees);
+        };
+        let (number, _) = self.enter(name.as_str())?;
+        Ok(Grantees::of(Grantee::User(User(number))))
+    }
+
     /// The numbers of a user and of grantees, of which each is there already or is entered last, the user before the
     /// grantees. PUBLIC isn't entered. It refuses as `enter`, and then nothing has changed.
+    #[inline(always)]
     pub(crate) fn enter_parties(
         &mut self,
         user: &str,

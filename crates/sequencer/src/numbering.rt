@@ -1,18 +1,21 @@
 //! Names become numbers, where they pass the tests.
 
-ghost use Rattle.std.specs.Prelude.{◌≡◌, ◌<◌, ◌≤◌, [], length, map, vec_capacity, vec_len};
+ghost use Rattle.std.specs.Prelude.{◌≡◌, ◌<◌, ◌≤◌, [], length, map, nat_le, vec_capacity, vec_len};
 ghost use Rattle.sequencer.specs.Catalog.{Names, raw_grantees, numbered_access, numbered_deed, numbered_grantee, numbered_step, named_table_of};
 ghost use Rattle.sequencer.specs.Names.{number_of};
-ghost use Rattle.sequencer.specs.Admitting.{Appends};
-ghost use Rattle.sequencer.specs.Refusal.{IsAnswerOf, access_refusal, accesses_refusal, step_refusal, steps_refusal};
+ghost use Rattle.sequencer.specs.Admitting.{AppendsStep};
+ghost use Rattle.sequencer.specs.Refusal.{IsAnswerOf, access_refusal, accesses_refusal, column_refusal, known_refusal, refuse_unless, step_refusal, steps_refusal, width_refusal};
 
 use crate::catalog::Catalog;
 use crate::refused::Refused;
 use crate::testing::{is_repeated, test_skip};
-use log_text::{RawAccess, RawDeed, RawStep};
-use model_base::{Access, DeedForm, Grantees, Items, Key, Step, Table};
+use log_text::{Name, RawAccess, RawDeed, RawStep};
+use model_base::{
+    Access, DeedForm, Grantees, Items, Key, Register, Registers, RowName, Step, Table,
+};
 
 /// The deed with its table and its grantees by number.
+#[inline(always)]
 pub(crate) fn deed_form(deed: &RawDeed<'_>, table: Table, grantees: Grantees) -> DeedForm
     ensures { (names : Names) → table ≡ number_of names.tables (named_table_of deed.now)
         → grantees ≡ map (numbered_grantee names.users) (raw_grantees deed.now) → result ≡ numbered_deed names deed.now }
@@ -30,6 +33,15 @@ pub(crate) fn deed_form(deed: &RawDeed<'_>, table: Table, grantees: Grantees) ->
             grantees,
         },
     }
+}
+
+/// A SKIP, where this many steps come later. It has to pass over no more than these.
+#[inline(always)]
+fn skip_step(of: Register, steps: u32, later: usize) -> Result<Step, Refused>
+    ensures { IsAnswerOf result (refuse_unless (nat_le steps later) Refused.SkipPastEnd) (Step.Skip of steps) }
+{
+    test_skip(steps, later)?;
+    Ok(Step::Skip { of, steps })
 }
 
 impl Catalog {
@@ -73,10 +85,122 @@ impl Catalog {
         Ok(Items::new(found))
     }
 
+    /// Appends a HAS with its table by number. It has to be on a known table.
+    #[inline(always)]
+    fn push_has(
+        &self,
+        recent: &mut Table,
+        found: &mut Vec<Step>,
+        to: &Register,
+        table: &Name<'_>,
+        row: &RowName,
+    ) -> Result<(), Refused>
+        requires { vec_len found.old < vec_capacity found.old }
+        ensures { AppendsStep result (known_refusal self.now table.now) found.old found.new
+            (Step.Has to.now (number_of self.now.tables table.now) row.now) }
+    {
+        let table = self.known_table(recent, table)?;
+        found.push_reserved(Step::Has {
+            to: *to,
+            table,
+            row: *row,
+        });
+        Ok(())
+    }
+
+    /// Appends a LOAD of a column of a row, with its table by number. It has to be of a column of a known table.
+    #[inline(always)]
+    fn push_load(
+        &self,
+        recent: &mut Table,
+        found: &mut Vec<Step>,
+        to: &Register,
+        from: (&Name<'_>, &RowName, &u32),
+    ) -> Result<(), Refused>
+        requires { vec_len found.old < vec_capacity found.old }
+        ensures { AppendsStep result (column_refusal self.now from.entry.0.now from.entry.2.now) found.old found.new
+            (Step.Load to.now (number_of self.now.tables from.entry.0.now) from.entry.1.now from.entry.2.now) }
+    {
+        let (table, row, column) = from;
+        let table = self.table_with_column(recent, table, *column)?;
+        found.push_reserved(Step::Load {
+            to: *to,
+            table,
+            row: *row,
+            column: *column,
+        });
+        Ok(())
+    }
+
+    /// Appends a STORE to a column of a row, with its table by number. It has to be to a column of a known table.
+    #[inline(always)]
+    fn push_store(
+        &self,
+        recent: &mut Table,
+        found: &mut Vec<Step>,
+        to: (&Name<'_>, &RowName, &u32),
+        from: &Register,
+    ) -> Result<(), Refused>
+        requires { vec_len found.old < vec_capacity found.old }
+        ensures { AppendsStep result (column_refusal self.now to.entry.0.now to.entry.2.now) found.old found.new
+            (Step.Store (number_of self.now.tables to.entry.0.now) to.entry.1.now to.entry.2.now from.now) }
+    {
+        let (table, row, column) = to;
+        let table = self.table_with_column(recent, table, *column)?;
+        found.push_reserved(Step::Store {
+            table,
+            row: *row,
+            column: *column,
+            from: *from,
+        });
+        Ok(())
+    }
+
+    /// Appends an INSERT with its table by number. It has to be on a known table, with as many registers as that has columns.
+    #[inline(always)]
+    fn push_insert(
+        &self,
+        recent: &mut Table,
+        found: &mut Vec<Step>,
+        table: &Name<'_>,
+        row: &RowName,
+        from: &Registers,
+    ) -> Result<(), Refused>
+        requires { vec_len found.old < vec_capacity found.old }
+        ensures { AppendsStep result (width_refusal self.now table.now (length from.now)) found.old found.new
+            (Step.Insert (number_of self.now.tables table.now) row.now from.now) }
+    {
+        let table = self.table_of_width(recent, table, from.len())?;
+        found.push_reserved(Step::Insert {
+            table,
+            row: *row,
+            from: *from,
+        });
+        Ok(())
+    }
+
+    /// Appends a DELETE with its table by number. It has to be on a known table.
+    #[inline(always)]
+    fn push_delete(
+        &self,
+        recent: &mut Table,
+        found: &mut Vec<Step>,
+        table: &Name<'_>,
+        row: &RowName,
+    ) -> Result<(), Refused>
+        requires { vec_len found.old < vec_capacity found.old }
+        ensures { AppendsStep result (known_refusal self.now table.now) found.old found.new
+            (Step.Delete (number_of self.now.tables table.now) row.now) }
+    {
+        let table = self.known_table(recent, table)?;
+        found.push_reserved(Step::Delete { table, row: *row });
+        Ok(())
+    }
+
     /// Appends the step with its table by number, where this many steps come later. It has to fit the table, and to pass over no more steps
     /// than there are.
     #[inline(always)]
-    fn number_step(
+    fn push_step(
         &self,
         recent: &mut Table,
         later: usize,
@@ -84,9 +208,7 @@ impl Catalog {
         found: &mut Vec<Step>,
     ) -> Result<(), Refused>
         requires { vec_len found.old < vec_capacity found.old }
-        ensures appended { Appends result (step_refusal self.now later step.now)
-            found.old.items found.new.items (numbered_step self.now step.now) }
-        ensures capacity { vec_capacity found.new ≡ vec_capacity found.old }
+        ensures { AppendsStep result (step_refusal self.now later step.now) found.old found.new (numbered_step self.now step.now) }
     {
         match step {
             RawStep::Const { to, value } => found.push_reserved(Step::Const {
@@ -104,62 +226,25 @@ impl Catalog {
                 left: *left,
                 right: *right,
             }),
-            RawStep::Has { to, table, row } => {
-                let table = self.known_table(recent, table)?;
-                found.push_reserved(Step::Has {
-                    to: *to,
-                    table,
-                    row: *row,
-                });
-            }
+            RawStep::Has { to, table, row } => self.push_has(recent, found, to, table, row)?,
             RawStep::Load {
                 to,
                 table,
                 row,
                 column,
-            } => {
-                let table = self.table_with_column(recent, table, *column)?;
-                found.push_reserved(Step::Load {
-                    to: *to,
-                    table,
-                    row: *row,
-                    column: *column,
-                });
-            }
+            } => self.push_load(recent, found, to, (table, row, column))?,
             RawStep::Store {
                 table,
                 row,
                 column,
                 from,
-            } => {
-                let table = self.table_with_column(recent, table, *column)?;
-                found.push_reserved(Step::Store {
-                    table,
-                    row: *row,
-                    column: *column,
-                    from: *from,
-                });
-            }
+            } => self.push_store(recent, found, (table, row, column), from)?,
             RawStep::Insert { table, row, from } => {
-                let table = self.table_of_width(recent, table, from.len())?;
-                found.push_reserved(Step::Insert {
-                    table,
-                    row: *row,
-                    from: *from,
-                });
+                self.push_insert(recent, found, table, row, from)?;
             }
-            RawStep::Delete { table, row } => {
-                let table = self.known_table(recent, table)?;
-                found.push_reserved(Step::Delete { table, row: *row });
-            }
+            RawStep::Delete { table, row } => self.push_delete(recent, found, table, row)?,
             RawStep::Check { of } => found.push_reserved(Step::Check { of: *of }),
-            RawStep::Skip { of, steps } => {
-                test_skip(*steps, later)?;
-                found.push_reserved(Step::Skip {
-                    of: *of,
-                    steps: *steps,
-                });
-            }
+            RawStep::Skip { of, steps } => found.push_reserved(skip_step(*of, *steps, later)?),
             RawStep::Out { of } => found.push_reserved(Step::Out { of: *of }),
         }
         Ok(())
@@ -179,7 +264,7 @@ impl Catalog {
         let mut later = steps.len();
         for step in steps.iter() {
             later -= 1;
-            self.number_step(recent, later, step, &mut found)?;
+            self.push_step(recent, later, step, &mut found)?;
         }
         Ok(Items::new(found))
     }

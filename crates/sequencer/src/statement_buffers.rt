@@ -12,7 +12,7 @@ use model_base::{Access, Form, Statement, Step};
 use std::alloc::{AllocError, Global};
 
 /// Where the accesses and the steps of a statement go when they are numbered. `admit` takes what a statement needs out of
-/// it, and `take_back` puts it back from a statement that is of no more use: so one after another needs no memory.
+/// it, and `take_back` takes it back from a statement that is of no more use: so one after another needs no memory.
 #[derive(Drop)]
 pub struct StatementBuffers {
     pub(crate) accesses: Vec<Access>,

@@ -117,7 +117,7 @@ impl LogTail {
     }
 
     /// Takes a statement as the next place, which is the length until then. The first test that it doesn't pass refuses
-    /// it; one that passes is refused only where memory is refused. After a refusal the log is as it was. Its accesses and steps take
+    /// it; one that passes is refused only where memory runs out. After a refusal the log is as it was. Its accesses and steps take
     /// the memory of a dropped statement where that is enough.
     #[inline(always)]
     pub fn push(&mut self, statement: &RawStatement<'_>) -> Result<Place, Refused>

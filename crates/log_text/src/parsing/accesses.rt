@@ -1,11 +1,10 @@
 //! The accesses of a RUN.
-ghost use Rattle.std.specs.Prelude.{MatchBool, ◌≡◌, ◌∷◌, ◌++◌, ◌≤◌, [], vec_len, None, Some, ℕ, IfOk, IfErr, codes, map};
-ghost use Rattle.std.specs.List.{AllByRecursion};
+ghost use Rattle.std.specs.Prelude.{◌≡◌, ◌∷◌, [], None, Some, ℕ, IfOk, IfErr, map};
 ghost use Rattle.line_words.specs.Words.{first_word};
 ghost use Rattle.line_words.specs.Access.{access_word, IsAccess};
 ghost use Rattle.line_words.specs.Faults.{IsFault};
 ghost use Rattle.log_text.specs.Fault.{OfAccess, OfNext, misfit, fault_from};
-ghost use Rattle.log_text.specs.Parsing.{fault_behind};
+ghost use Rattle.log_text.specs.Parsing.{AreAccesses, TakesWords, fault_behind};
 
 use line_words::{LineFault, Name, RawAccess, Words, access_of};
 use model_base::MOST_ACCESSES;
@@ -42,9 +41,7 @@ pub(crate) fn accesses<'a>(
     words: &mut Words<'a>,
     found: &mut Vec<RawAccess<'a>>,
 ) -> Result<bool, LineFault>
-    ensures ok { IfOk result (λ more. MatchBool more (words.old ≡ map access_word found.new.items
-        ++ codes "|" ∷ words.new) (words.old ≡ map access_word found.new.items)
-        × (1 ≤ vec_len found.new) × (vec_len found.new ≤ MOST_ACCESSES) × AllByRecursion IsAccess found.new.items) }
+    ensures ok { IfOk result (λ more. TakesWords words.old (map access_word found.new.items) more words.new × AreAccesses found.new) }
     ensures fits { IfOk result (λ more. (version : ℕ)
         → fault_from (OfAccess ∷ OfNext version 1 ∷ []) words.old ≡ fault_behind more version 0 0 words.new) }
     ensures fault { IfErr result (λ f. (version : ℕ) → IsFault f (fault_from (OfAccess ∷ OfNext version 1 ∷ []) words.old)) }

@@ -1,9 +1,5 @@
 //! The steps that touch no row.
-ghost use Rattle.std.specs.Prelude.{◌≡◌, ◌∷◌, ◌+◌, Some, ℕ, IfOk, IfErr};
-ghost use Rattle.log_text.specs.Statement.{IsStep, outs_of};
-ghost use Rattle.log_text.specs.Fault.{expected_in, fault_from};
-ghost use Rattle.log_text.specs.Parsing.{TakesStep, fault_behind};
-ghost use Rattle.line_words.specs.StepWords.{step_word};
+ghost use Rattle.log_text.specs.Parsing.{ReadsStep};
 ghost use Rattle.line_words.specs.declared.step_name.StepName.TheVariants.{Const, Compute, Check, Skip, Out};
 
 use super::fields::{bar_or_end, number, register, whole_number};
@@ -14,12 +10,7 @@ use model_base::Operation;
 /// What is after CONST, up to the next step or the end.
 #[inline(always)]
 pub(super) fn constant<'a>(words: &mut Words<'a>, step: &mut RawStep<'a>) -> Result<bool, LineFault>
-    ensures ok { IfOk result (λ more. TakesStep (step_word Const ∷ words.old) step.new more words.new
-        × IsStep step.new × (outs_of step.new ≡ 0)) }
-    ensures fits { IfOk result (λ more. (version steps outs : ℕ)
-        → fault_from (expected_in (Some Const) version steps outs) words.old ≡ fault_behind more version (steps + 1) outs words.new) }
-    ensures fault { IfErr result (λ f. (version steps outs : ℕ)
-        → fault_from (expected_in (Some Const) version steps outs) words.old ≡ Some f) }
+    ensures { ReadsStep Const result step.new words.old words.new }
 {
     let to = register(words)?;
     let value = whole_number(words)?;
@@ -34,13 +25,7 @@ pub(super) fn compute<'a>(
     words: &mut Words<'a>,
     step: &mut RawStep<'a>,
 ) -> Result<bool, LineFault>
-    ensures ok { IfOk result (λ more. TakesStep (step_word (Compute operation) ∷ words.old) step.new more words.new
-        × IsStep step.new × (outs_of step.new ≡ 0)) }
-    ensures fits { IfOk result (λ more. (version steps outs : ℕ)
-        → fault_from (expected_in (Some (Compute operation)) version steps outs) words.old
-        ≡ fault_behind more version (steps + 1) outs words.new) }
-    ensures fault { IfErr result (λ f. (version steps outs : ℕ)
-        → fault_from (expected_in (Some (Compute operation)) version steps outs) words.old ≡ Some f) }
+    ensures { ReadsStep (Compute operation) result step.new words.old words.new }
 {
     let to = register(words)?;
     let left = register(words)?;
@@ -57,12 +42,7 @@ pub(super) fn compute<'a>(
 /// What is after CHECK, up to the next step or the end.
 #[inline(always)]
 pub(super) fn check<'a>(words: &mut Words<'a>, step: &mut RawStep<'a>) -> Result<bool, LineFault>
-    ensures ok { IfOk result (λ more. TakesStep (step_word Check ∷ words.old) step.new more words.new
-        × IsStep step.new × (outs_of step.new ≡ 0)) }
-    ensures fits { IfOk result (λ more. (version steps outs : ℕ)
-        → fault_from (expected_in (Some Check) version steps outs) words.old ≡ fault_behind more version (steps + 1) outs words.new) }
-    ensures fault { IfErr result (λ f. (version steps outs : ℕ)
-        → fault_from (expected_in (Some Check) version steps outs) words.old ≡ Some f) }
+    ensures { ReadsStep Check result step.new words.old words.new }
 {
     let of = register(words)?;
     *step = RawStep::Check { of };
@@ -72,12 +52,7 @@ pub(super) fn check<'a>(words: &mut Words<'a>, step: &mut RawStep<'a>) -> Result
 /// What is after SKIP, up to the next step or the end.
 #[inline(always)]
 pub(super) fn skip<'a>(words: &mut Words<'a>, step: &mut RawStep<'a>) -> Result<bool, LineFault>
-    ensures ok { IfOk result (λ more. TakesStep (step_word Skip ∷ words.old) step.new more words.new
-        × IsStep step.new × (outs_of step.new ≡ 0)) }
-    ensures fits { IfOk result (λ more. (version steps outs : ℕ)
-        → fault_from (expected_in (Some Skip) version steps outs) words.old ≡ fault_behind more version (steps + 1) outs words.new) }
-    ensures fault { IfErr result (λ f. (version steps outs : ℕ)
-        → fault_from (expected_in (Some Skip) version steps outs) words.old ≡ Some f) }
+    ensures { ReadsStep Skip result step.new words.old words.new }
 {
     let of = register(words)?;
     let steps = number(words)?;
@@ -88,12 +63,7 @@ pub(super) fn skip<'a>(words: &mut Words<'a>, step: &mut RawStep<'a>) -> Result<
 /// What is after OUT, up to the next step or the end.
 #[inline(always)]
 pub(super) fn out<'a>(words: &mut Words<'a>, step: &mut RawStep<'a>) -> Result<bool, LineFault>
-    ensures ok { IfOk result (λ more. TakesStep (step_word Out ∷ words.old) step.new more words.new
-        × IsStep step.new × (outs_of step.new ≡ 1)) }
-    ensures fits { IfOk result (λ more. (version steps outs : ℕ)
-        → fault_from (expected_in (Some Out) version steps outs) words.old ≡ fault_behind more version (steps + 1) (outs + 1) words.new) }
-    ensures fault { IfErr result (λ f. (version steps outs : ℕ)
-        → fault_from (expected_in (Some Out) version steps outs) words.old ≡ Some f) }
+    ensures { ReadsStep Out result step.new words.old words.new }
 {
     let of = register(words)?;
     *step = RawStep::Out { of };

@@ -21,29 +21,19 @@ pub(crate) fn name<'a>(words: &mut Words<'a>) -> Result<Name<'a>, LineFault>
     }
 }
 
-/// Takes a plain number, as `number`, in whatever form it is written.
-#[tactic(auto, using(line_words::proofs::Plain::plain_some, line_words::proofs::Plain::plain_empty))]
-#[inline(always)]
-fn other_number(words: &mut Words<'_>) -> Result<u32, LineFault>
-    ensures ok { IfOk result (λ n. (words.old ≡ decimal n ∷ words.new) × (n < 2 ^ 32) × (plain (decimal n) ≡ Some n)) }
-    ensures fault { IfErr result (λ f. misfit OfPlain (first_word words.old) ≡ Some f) }
-{
-    match words.next() {
-        Some(word) => plain_value(word).ok_or(LineFault::BadNumber),
-        None => Err(LineFault::BadNumber),
-    }
-}
-
 /// Takes a plain number.
-#[tactic(auto, using(line_words::proofs::Plain::plain_of_decimal))]
+#[tactic(auto, using(line_words::proofs::Plain::plain_of_decimal, line_words::proofs::Plain::plain_some, line_words::proofs::Plain::plain_empty))]
 #[inline(always)]
 pub(crate) fn number(words: &mut Words<'_>) -> Result<u32, LineFault>
     ensures ok { IfOk result (λ n. (words.old ≡ decimal n ∷ words.new) × (n < 2 ^ 32) × (plain (decimal n) ≡ Some n)) }
     ensures fault { IfErr result (λ f. misfit OfPlain (first_word words.old) ≡ Some f) }
 {
-    match words.next_number() {
-        Some(number) => Ok(number),
-        None => other_number(words),
+    if let Some(number) = words.next_number() {
+        return Ok(number);
+    }
+    match words.next() {
+        Some(word) => plain_value(word).ok_or(LineFault::BadNumber),
+        None => Err(LineFault::BadNumber),
     }
 }
 
@@ -90,29 +80,19 @@ pub(crate) fn register_of(word: &[u8]) -> Result<Register, LineFault>
     numbered_register(number)
 }
 
-/// Takes a register, as `register`, in whatever form it is written.
-#[tactic(auto, using(line_words::proofs::Plain::plain_empty))]
-#[inline(always)]
-fn other_register(words: &mut Words<'_>) -> Result<Register, LineFault>
-    ensures ok { IfOk result (λ n. (words.old ≡ decimal n ∷ words.new) × (n < MOST_REGISTERS) × (misfit OfRegister (decimal n) ≡ None)) }
-    ensures fault { IfErr result (λ f. misfit OfRegister (first_word words.old) ≡ Some f) }
-{
-    match words.next() {
-        Some(word) => register_of(word),
-        None => Err(LineFault::BadNumber),
-    }
-}
-
 /// Takes a register.
-#[tactic(auto, using(line_words::proofs::Plain::plain_of_decimal))]
+#[tactic(auto, using(line_words::proofs::Plain::plain_of_decimal, line_words::proofs::Plain::plain_empty))]
 #[inline(always)]
 pub(crate) fn register(words: &mut Words<'_>) -> Result<Register, LineFault>
     ensures ok { IfOk result (λ n. (words.old ≡ decimal n ∷ words.new) × (n < MOST_REGISTERS) × (misfit OfRegister (decimal n) ≡ None)) }
     ensures fault { IfErr result (λ f. misfit OfRegister (first_word words.old) ≡ Some f) }
 {
-    match words.next_number() {
-        Some(number) => numbered_register(number),
-        None => other_register(words),
+    if let Some(number) = words.next_number() {
+        return numbered_register(number);
+    }
+    match words.next() {
+        Some(word) => register_of(word),
+        None => Err(LineFault::BadNumber),
     }
 }
 

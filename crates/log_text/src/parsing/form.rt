@@ -1,11 +1,11 @@
 //! What a statement asks for.
-ghost use Rattle.std.specs.Prelude.{◌≡◌, ◌≢◌, ◌∷◌, [], Some, ℕ, IfOk, IfErr, MatchBool, OnOk, codes};
+ghost use Rattle.std.specs.Prelude.{◌≡◌, ◌≢◌, ◌∷◌, [], Some, ℕ, IfOk, IfErr, MatchBool, MatchOption, OnOk, codes, true};
 ghost use Rattle.log_text.specs.Statement.{form_words, IsFormInGrammar, IsFormOf, IsLastDeedOf};
 ghost use Rattle.log_text.specs.Versions.{version_number};
 ghost use Rattle.line_words.specs.Faults.{IsFault};
 ghost use Rattle.line_words.specs.Words.{first_word};
-ghost use Rattle.log_text.specs.Fault.{OfName, OfPlain, OfForm, fault_from};
-ghost use Rattle.log_text.specs.declared.statement.RawForm.TheVariants.{Run};
+ghost use Rattle.log_text.specs.Fault.{OfName, OfPlain, OfForm, fault_from, is_deed};
+ghost use Rattle.log_text.specs.LineBuffers.{run_of};
 
 use super::accesses::accesses;
 use super::deeds::{begins_deed, deed};
@@ -35,8 +35,7 @@ pub(crate) fn run<'a>(
     words: &mut Words<'a>,
     room: &mut LineBuffers<'a>,
 ) -> Result<(), LineFault>
-    ensures ok { OnOk result ((codes "RUN" ∷ words.old ≡ form_words (Run room.new.accesses.items room.new.steps.items room.new.deed))
-        × IsFormInGrammar (Run room.new.accesses.items room.new.steps.items room.new.deed)
+    ensures ok { OnOk result ((codes "RUN" ∷ words.old ≡ form_words (run_of room.new)) × IsFormInGrammar (run_of room.new)
         × IsLastDeedOf (version_number version) room.new.deed) }
     ensures fault { IfErr result (λ f. IsFault f (fault_from (OfForm (version_number version) ∷ []) (codes "RUN" ∷ words.old))) }
     ensures user { room.new.user ≡ room.old.user }
@@ -52,11 +51,14 @@ pub(crate) fn run<'a>(
     steps(version, words, near, &mut room.steps, &mut room.deed)
 }
 
-/// Takes the word RUN, if it is the next word, in whatever form it is written; otherwise the words stay as they are.
+/// Takes the word RUN, if it is the next word; otherwise the words stay as they are.
 #[inline(always)]
-fn other_run(words: &mut Words<'_>) -> bool
+pub(crate) fn takes_run(words: &mut Words<'_>) -> bool
     ensures { MatchBool result (words.old ≡ codes "RUN" ∷ words.new) ((words.new ≡ words.old) × (first_word words.old ≢ codes "RUN")) }
 {
+    if words.next_run() {
+        return true;
+    }
     let Some(word) = words.first() else {
         return false;
     };
@@ -67,12 +69,19 @@ fn other_run(words: &mut Words<'_>) -> bool
     true
 }
 
-/// Takes the word RUN, if it is the next word; otherwise the words stay as they are.
+/// Takes the word GRANT or REVOKE, if it is the next word and another follows; otherwise the words stay as they are. It doesn't look for
+/// the word's end.
 #[inline(always)]
-pub(crate) fn takes_run(words: &mut Words<'_>) -> bool
-    ensures { MatchBool result (words.old ≡ codes "RUN" ∷ words.new) ((words.new ≡ words.old) × (first_word words.old ≢ codes "RUN")) }
+fn next_deed_word(words: &mut Words<'_>) -> Option<&'static [u8]>
+    ensures { MatchOption result (words.new ≡ words.old) (λ w. (words.old ≡ w.now ∷ words.new) × (is_deed w.now ≡ true)) }
 {
-    words.next_run() || other_run(words)
+    if words.next_is(b"GRANT") {
+        return Some(b"GRANT");
+    }
+    if words.next_is(b"REVOKE") {
+        return Some(b"REVOKE");
+    }
+    None
 }
 
 /// What is after the user, where it isn't a RUN.
@@ -85,6 +94,9 @@ pub(crate) fn other_form<'a>(
     ensures ok { IfOk result (λ form. (words.old ≡ form_words form) × IsFormInGrammar form × IsFormOf (version_number version) form) }
     ensures fault { IfErr result (λ f. fault_from (OfForm (version_number version) ∷ []) words.old ≡ Some f) }
 {
+    if let Some(word) = next_deed_word(words) {
+        return Ok(RawForm::Deed(deed(version, word, words)?));
+    }
     let Some(word) = words.next() else {
         return Err(LineFault::UnknownWord);
     };

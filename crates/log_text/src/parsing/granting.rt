@@ -1,9 +1,9 @@
 //! The kinds and the grantees of a deed.
-ghost use Rattle.std.specs.Prelude.{◌≡◌, ◌≤◌, ◌∷◌, [], List, ℕ, Some, None, IfOk, IfErr, OnOk, bytes_eq, false, length, take, true};
+ghost use Rattle.std.specs.Prelude.{◌≡◌, ◌≤◌, ◌∷◌, [], List, ℕ, Some, None, IfOk, IfErr, MatchOption, OnOk, bytes_eq, false, length, take, true};
 ghost use Rattle.std.specs.List.{list_any};
 ghost use Rattle.line_words.specs.Words.{first_word, is_name, comma_pieces};
 ghost use Rattle.model_base.specs.Outcomes.{kinds_in};
-ghost use Rattle.log_text.specs.Statement.{kinds_word};
+ghost use Rattle.log_text.specs.Statement.{kind_word, kinds_word};
 ghost use Rattle.log_text.specs.Grantees.{grantees_written, grantees_word, AreGrantees};
 ghost use Rattle.log_text.specs.Versions.{MayHaveParts, parts_of, version_number};
 ghost use Rattle.log_text.specs.Fault.{OfKinds, grantee_fault, grantees_fault, is_public, misfit};
@@ -12,10 +12,32 @@ use crate::grantees::RawGrantees;
 use crate::kind::kinds_of;
 use crate::version::Version;
 use line_words::{LineFault, Pieces, Words, has_name_form};
-use model_base::{Kinds, MOST_GRANTEES};
+use model_base::{Kind, Kinds, MOST_GRANTEES};
 
-/// Takes the kinds.
-pub(super) fn kinds(version: Version, words: &mut Words<'_>) -> Result<Kinds, LineFault>
+/// Takes the word of one kind, if it is the next word and another follows; otherwise the words stay as they are. It doesn't look for the
+/// word's end.
+#[inline(always)]
+fn next_kind(words: &mut Words<'_>) -> Option<Kind>
+    ensures { MatchOption result (words.new ≡ words.old) (λ k. words.old ≡ kind_word k ∷ words.new) }
+{
+    if words.next_is(b"READ") {
+        return Some(Kind::Read);
+    }
+    if words.next_is(b"INSERT") {
+        return Some(Kind::Insert);
+    }
+    if words.next_is(b"UPDATE") {
+        return Some(Kind::Update);
+    }
+    if words.next_is(b"DELETE") {
+        return Some(Kind::Delete);
+    }
+    None
+}
+
+/// Takes the kinds, as `kinds`, in whatever form they are written.
+#[inline(never)]
+fn other_kinds(version: Version, words: &mut Words<'_>) -> Result<Kinds, LineFault>
     ensures ok { IfOk result (λ k. (words.old ≡ kinds_word k ∷ words.new) × (1 ≤ length (kinds_in k))
         × MayHaveParts (version_number version) (length (kinds_in k)) × (misfit (OfKinds (version_number version)) (kinds_word k) ≡ None)) }
     ensures fault { IfErr result (λ f. misfit (OfKinds (version_number version)) (first_word words.old) ≡ Some f) }
@@ -26,6 +48,19 @@ pub(super) fn kinds(version: Version, words: &mut Words<'_>) -> Result<Kinds, Li
     match kinds_of(version, word) {
         Some(kinds) => Ok(kinds),
         None => Err(LineFault::UnknownWord),
+    }
+}
+
+/// Takes the kinds. Mostly there is one.
+#[inline(always)]
+pub(super) fn kinds(version: Version, words: &mut Words<'_>) -> Result<Kinds, LineFault>
+    ensures ok { IfOk result (λ k. (words.old ≡ kinds_word k ∷ words.new) × (1 ≤ length (kinds_in k))
+        × MayHaveParts (version_number version) (length (kinds_in k)) × (misfit (OfKinds (version_number version)) (kinds_word k) ≡ None)) }
+    ensures fault { IfErr result (λ f. misfit (OfKinds (version_number version)) (first_word words.old) ≡ Some f) }
+{
+    match next_kind(words) {
+        Some(kind) => Ok(Kinds::only(kind)),
+        None => other_kinds(version, words),
     }
 }
 
@@ -96,6 +131,7 @@ fn public_alone<'a>(word: &'a [u8]) -> Result<RawGrantees<'a>, LineFault>
 }
 
 /// The grantees that a word lists, which is no name.
+#[inline(never)]
 fn listed_in<'a>(version: Version, word: &'a [u8]) -> Result<RawGrantees<'a>, LineFault>
     requires { is_name word.now ≡ false }
     ensures value { IfOk result (λ gs. gs ≡ grantees_written word.now) }
@@ -110,6 +146,7 @@ fn listed_in<'a>(version: Version, word: &'a [u8]) -> Result<RawGrantees<'a>, Li
 }
 
 /// Takes the grantees. Mostly there is one, of a name: its bytes are gone over once.
+#[inline(always)]
 pub(super) fn grantees<'a>(
     version: Version,
     words: &mut Words<'a>,
@@ -120,7 +157,7 @@ pub(super) fn grantees<'a>(
     ensures fault { IfErr result (λ f. grantees_fault [] (parts_of (version_number version) (first_word words.old)) ≡ Some f) }
 {
     if let Some(name) = words.next_name() {
-        return Ok(RawGrantees::of(name));
+        return Ok(RawGrantees::of_name(name));
     }
     let Some(word) = words.next() else {
         return Err(LineFault::BadName);

@@ -57,9 +57,9 @@ fn take_user<'a>(words: &mut Words<'a>, user: &mut Name<'a>) -> Result<(), LineF
     Ok(())
 }
 
-/// Reads a line of a version, without its end of line, into the room: what is there then is the statement that the line reads as. Accesses and steps
-/// take memory only where there isn't room enough. `NoMemory` comes only where the allocator refused. After an error nothing is known of
-/// what is in the room.
+/// Reads a line of a version, without its end of line, into the room: what is there then is the statement that the line reads as. Accesses
+/// and steps take memory only where there isn't room enough. `NoMemory` comes only where the allocator refused. After an error nothing is
+/// known of what is in the room.
 #[tactic(auto, using(crate::proofs::Grammar::only_memory, crate::proofs::Grammar::found_fault))]
 pub fn read_into<'a>(
     version: Version,
@@ -78,7 +78,8 @@ pub fn read_into<'a>(
     // A line that is too long or empty, or has a byte that isn't printable, is returned as such, and never as out of memory.
     ensures whole { (f : LineFault) → whole_fault line.now ≡ Some f → result ≡ Err f }
 {
-    // Whether each byte is printable is asked only where the words have a fault: a line that reads as a statement has printable bytes alone.
+    // Whether each byte is printable is asked only where the words have a fault: a line that reads as a statement has printable bytes
+    // alone.
     if line.len() > MOST_LINE_BYTES {
         return Err(LineFault::TooLong);
     }

@@ -1,13 +1,12 @@
 //! The steps of a RUN, and the deed after them.
-ghost use Rattle.std.specs.Prelude.{◌≡◌, ◌∷◌, ◌+◌, ◌≤◌, ◌<◌, ℕ, [], vec_len, Some, None, IfOk, IfErr, IfSome, MatchOption, OnOk, codes, true};
-ghost use Rattle.std.specs.List.{AllByRecursion, sum_by};
+ghost use Rattle.std.specs.Prelude.{◌≡◌, ◌∷◌, ◌+◌, ◌≤◌, ◌<◌, ℕ, [], Some, None, IfOk, IfErr, IfSome, MatchOption, OnOk, codes, true};
 ghost use Rattle.log_text.specs.Statement.{body_words, last_deed, IsLastDeed, IsLastDeedOf, IsStep, outs_of};
 ghost use Rattle.line_words.specs.StepWords.{step_name, step_word};
 ghost use Rattle.line_words.specs.Faults.{IsFault};
 ghost use Rattle.line_words.specs.Words.{first_word};
 ghost use Rattle.log_text.specs.Fault.{OfStep, expected_in, step_fault, fault_from};
 ghost use Rattle.log_text.specs.Versions.{version_number};
-ghost use Rattle.log_text.specs.Parsing.{TakesStep, fault_behind};
+ghost use Rattle.log_text.specs.Parsing.{IsBodyOf, TakesStep, fault_behind};
 
 use super::computing::{check, compute, constant, out, skip};
 use super::deeds::{begins_deed, deed};
@@ -18,24 +17,15 @@ use line_words::{LineFault, Name, StepName, Words};
 use model_base::{MOST_OUTPUTS, MOST_STEPS, Register};
 
 /// Takes the word of a step, if the next word is one; otherwise the words stay as they are.
+#[tactic(auto, using(line_words::proofs::StepNames::named_word))]
 #[inline(always)]
 fn next_name(words: &mut Words<'_>) -> Option<StepName>
     ensures { MatchOption result ((step_name (first_word words.old) ≡ None) × (words.new ≡ words.old))
         (λ s. words.old ≡ step_word s ∷ words.new) }
 {
-    match words.next_step() {
-        Some(name) => Some(name),
-        None => other_name(words),
+    if let Some(name) = words.next_step() {
+        return Some(name);
     }
-}
-
-/// Takes the word of a step, as `next_name`, in whatever form it is written.
-#[tactic(auto, using(line_words::proofs::StepNames::named_word))]
-#[inline(always)]
-fn other_name(words: &mut Words<'_>) -> Option<StepName>
-    ensures { MatchOption result ((step_name (first_word words.old) ≡ None) × (words.new ≡ words.old))
-        (λ s. words.old ≡ step_word s ∷ words.new) }
-{
     let name = StepName::of(words.first()?)?;
     words.next();
     Some(name)
@@ -151,8 +141,7 @@ pub(crate) fn steps<'a>(
 ) -> Result<(), LineFault>
     requires { deed.old ≡ None }
     ensures ok { OnOk result ((codes "|" ∷ words.old ≡ body_words found.new.items deed.new)
-        × (vec_len found.new ≤ MOST_STEPS) × (sum_by outs_of found.new.items ≤ MOST_OUTPUTS)
-        × AllByRecursion IsStep found.new.items × IsLastDeed deed.new × IsLastDeedOf (version_number version) deed.new) }
+        × IsBodyOf (version_number version) found.new deed.new) }
     ensures fault { IfErr result (λ f. IsFault f (fault_from (OfStep (version_number version) 0 0 ∷ []) words.old)) }
 {
     // The steps are taken from a copy of the words, so that the place in the line is kept in a register.

@@ -1,11 +1,10 @@
 //! The steps that touch a row.
-ghost use Rattle.std.specs.Prelude.{◌≡◌, ◌∷◌, ◌+◌, ◌<◌, length, Some, List, ℕ, IfOk, IfErr, IsTrue, ◌^◌};
+ghost use Rattle.std.specs.Prelude.{◌≡◌, ◌∷◌, ◌<◌, length, Some, List, IfOk, IfErr, IsTrue, ◌^◌};
 ghost use Rattle.std.specs.Fmt.{decimal};
-ghost use Rattle.line_words.specs.StepWords.{step_word};
 ghost use Rattle.line_words.specs.Words.{first_word, is_name};
-ghost use Rattle.log_text.specs.Statement.{row_word, IsStep, IsRowNumber, outs_of};
-ghost use Rattle.log_text.specs.Fault.{Expected, OfName, OfRow, OfPlain, expected_in, fault_from, misfit};
-ghost use Rattle.log_text.specs.Parsing.{AreInsertable, FailAsRegisters, FitAsRegisters, TakesStep, TakesRegisters, fault_behind};
+ghost use Rattle.log_text.specs.Statement.{row_word, IsRowNumber};
+ghost use Rattle.log_text.specs.Fault.{Expected, OfName, OfRow, OfPlain, fault_from, misfit};
+ghost use Rattle.log_text.specs.Parsing.{AreInsertable, FailAsRegisters, FitAsRegisters, ReadsStep, TakesRegisters};
 ghost use Rattle.line_words.specs.declared.step_name.StepName.TheVariants.{Has, Load, Store, Insert, Delete};
 
 use super::fields::{bar_or_end, name, number, register, register_of, row};
@@ -32,12 +31,7 @@ pub(super) fn has<'a>(
     near: &Name<'a>,
     step: &mut RawStep<'a>,
 ) -> Result<bool, LineFault>
-    ensures ok { IfOk result (λ more. TakesStep (step_word Has ∷ words.old) step.new more words.new
-        × IsStep step.new × (outs_of step.new ≡ 0)) }
-    ensures fits { IfOk result (λ more. (version steps outs : ℕ)
-        → fault_from (expected_in (Some Has) version steps outs) words.old ≡ fault_behind more version (steps + 1) outs words.new) }
-    ensures fault { IfErr result (λ f. (version steps outs : ℕ)
-        → fault_from (expected_in (Some Has) version steps outs) words.old ≡ Some f) }
+    ensures { ReadsStep Has result step.new words.old words.new }
 {
     let to = register(words)?;
     let table = table(words, near)?;
@@ -68,12 +62,7 @@ pub(super) fn load<'a>(
     near: &Name<'a>,
     step: &mut RawStep<'a>,
 ) -> Result<bool, LineFault>
-    ensures ok { IfOk result (λ more. TakesStep (step_word Load ∷ words.old) step.new more words.new
-        × IsStep step.new × (outs_of step.new ≡ 0)) }
-    ensures fits { IfOk result (λ more. (version steps outs : ℕ)
-        → fault_from (expected_in (Some Load) version steps outs) words.old ≡ fault_behind more version (steps + 1) outs words.new) }
-    ensures fault { IfErr result (λ f. (version steps outs : ℕ)
-        → fault_from (expected_in (Some Load) version steps outs) words.old ≡ Some f) }
+    ensures { ReadsStep Load result step.new words.old words.new }
 {
     let to = register(words)?;
     let (table, row, column) = cell(words, near)?;
@@ -93,12 +82,7 @@ pub(super) fn store<'a>(
     near: &Name<'a>,
     step: &mut RawStep<'a>,
 ) -> Result<bool, LineFault>
-    ensures ok { IfOk result (λ more. TakesStep (step_word Store ∷ words.old) step.new more words.new
-        × IsStep step.new × (outs_of step.new ≡ 0)) }
-    ensures fits { IfOk result (λ more. (version steps outs : ℕ)
-        → fault_from (expected_in (Some Store) version steps outs) words.old ≡ fault_behind more version (steps + 1) outs words.new) }
-    ensures fault { IfErr result (λ f. (version steps outs : ℕ)
-        → fault_from (expected_in (Some Store) version steps outs) words.old ≡ Some f) }
+    ensures { ReadsStep Store result step.new words.old words.new }
 {
     let (table, row, column) = cell(words, near)?;
     let from = register(words)?;
@@ -142,12 +126,7 @@ pub(super) fn insert<'a>(
     near: &Name<'a>,
     step: &mut RawStep<'a>,
 ) -> Result<bool, LineFault>
-    ensures ok { IfOk result (λ more. TakesStep (step_word Insert ∷ words.old) step.new more words.new
-        × IsStep step.new × (outs_of step.new ≡ 0)) }
-    ensures fits { IfOk result (λ more. (version steps outs : ℕ)
-        → fault_from (expected_in (Some Insert) version steps outs) words.old ≡ fault_behind more version (steps + 1) outs words.new) }
-    ensures fault { IfErr result (λ f. (version steps outs : ℕ)
-        → fault_from (expected_in (Some Insert) version steps outs) words.old ≡ Some f) }
+    ensures { ReadsStep Insert result step.new words.old words.new }
 {
     let table = table(words, near)?;
     let row = row(words)?;
@@ -165,12 +144,7 @@ pub(super) fn delete<'a>(
     near: &Name<'a>,
     step: &mut RawStep<'a>,
 ) -> Result<bool, LineFault>
-    ensures ok { IfOk result (λ more. TakesStep (step_word Delete ∷ words.old) step.new more words.new
-        × IsStep step.new × (outs_of step.new ≡ 0)) }
-    ensures fits { IfOk result (λ more. (version steps outs : ℕ)
-        → fault_from (expected_in (Some Delete) version steps outs) words.old ≡ fault_behind more version (steps + 1) outs words.new) }
-    ensures fault { IfErr result (λ f. (version steps outs : ℕ)
-        → fault_from (expected_in (Some Delete) version steps outs) words.old ≡ Some f) }
+    ensures { ReadsStep Delete result step.new words.old words.new }
 {
     let table = table(words, near)?;
     let row = row(words)?;

@@ -1,20 +1,9 @@
-use Rattle.std.proofs.Common.{◌≡◌, ◌+◌, ◌-◌, ◌<◌, ◌∷◌, ℕ, true, List, length, take, drop, get_or, length-drop, ap, ◌∙◌, sym, subst, arith}
-use Rattle.std.proofs.lemmas.List.{take_all}
-use Rattle.line_words.specs.Words.{words_from, is_name}
+use Rattle.std.proofs.Common.{ap, ◌∙◌}
+use Rattle.line_words.specs.Words.{is_name}
 use Rattle.line_words.proofs.NameWords.{name-no_space}
-use Rattle.line_words.proofs.TakenWords.{front_taken}
 use Rattle.line_words.proofs.word_list.Words.next_same.Goals as goal
 
-pub returns : goal.returns
-returns c =
-    let line = c.self.inside.line.now in
-    let start = c.self.inside.start in
-    let word = c.as_bytes-word.result.now in
-    let whole = take (length line - start) (drop start line) in
-    let named : word ≡ c.args.name.now = c.as_bytes-word.ensures.value ∙ c.as_str.ensures.text in
-    let text : whole ≡ drop start line = take_all (length line - start) (drop start line) (omega (arith, length-drop start line)) in
-    let same : take (length word) whole ≡ word = c.if-not-begins_with.ensures in
-    let name : is_name word ≡ true = ap is_name named ∙ c.as_str.ensures.name in
-    front_taken line start word c.args.self.now c.self.view_is (omega arith) (subst (λ (w : List ℕ). length word < length w) text c.if-text-word.false)
-    (ap (take (length word)) (sym text) ∙ same) (name-no_space word name) (subst (λ (w : List ℕ). get_or w (length word) 0 ≡ 32) text c.if-text-word-ne32.false)
-    ∙ ap (λ (w : List ℕ). w ∷ words_from (start + length word + 1) line) named
+pub next_is-requires : goal.next_is-requires
+next_is-requires c =
+    let named = c.as_bytes.ensures.value ∙ c.as_str.ensures.text in
+    name-no_space c.as_bytes.result.now (ap is_name named ∙ c.as_str.ensures.name)

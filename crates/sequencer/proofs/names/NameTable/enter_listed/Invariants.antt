@@ -1,6 +1,6 @@
 use Rattle.std.proofs.Common.{length}
 use Rattle.sequencer.proofs.Parties.{AreEntered}
-use Rattle.sequencer.proofs.names.NameTable.enter_grantees.Given as goal
+use Rattle.sequencer.proofs.names.NameTable.enter_listed.Given as goal
 
 abbrev pub invariant-grantees : goal.invariant-grantees
 invariant-grantees l = AreEntered l.initial.self l.self l.grantees l.initial.left l.left l.found
