@@ -2,14 +2,13 @@
 use Rattle.std.proofs.Common.{◌≡◌, ℕ, false, not, List, Option, Some, None, refl, sym, ◌∙◌, ap}
 use Rattle.std.specs.Prelude.{IsSome}
 use Rattle.std.specs.List.{find}
-use Rattle.std.specs.Option.{option_map, option_map_or}
+use Rattle.std.specs.Option.{option_map}
 use Rattle.model_base.specs.Outcomes.{cause}
 use Rattle.model_base.specs.Privileges.{holds}
-use Rattle.model_base.specs.declared.deed.Cause.TheVariants.{Never, Taken}
 use Rattle.model_base.specs.declared.deed.Deed.{Deed}
 use Rattle.model_base.specs.declared.deed.Need.{Need}
-use Rattle.grants.specs.Loss.{last_end}
-use Rattle.grants_base.specs.View.{ShowsDeeds, View, entries, holds_in}
+use Rattle.grants.specs.Loss.{cause_in}
+use Rattle.grants_base.specs.View.{ShowsDeeds, View, holds_in}
 use Rattle.checker.specs.Admission.{admitted_if, told_if}
 use Rattle.checker.specs.Missing.{Covers, first_lacking, lack_of}
 use Rattle.checker.specs.declared.admission.Admission.{Admission}
@@ -31,7 +30,7 @@ module _ (view : View) (user : ℕ) where
 
   pub admitted_told : (owners : List ℕ) (deeds : List Deed) → ShowsDeeds view owners deeds → (needed : List Need) → Covers view needed
       → ((need : Need) → IsSome (view.owner need.table) → holds_in view user need ≡ false
-      → cause owners deeds user need ≡ option_map_or Taken (last_end (entries view) user need) Never)
+      → cause owners deeds user need ≡ cause_in view user need)
       → told_if view user (first_lacking view user needed) ≡ admitted_if owners deeds user (find (λ need. not (holds owners deeds user need)) needed)
   admitted_told owners deeds shows needed covered causes =
       by_found (first_lacking view user needed) refl ∙ ap (admitted_if owners deeds user) (first_shown view user owners deeds shows needed covered)

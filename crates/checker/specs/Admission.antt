@@ -3,15 +3,13 @@
 -- Relational Database System", ACM Transactions on Database Systems 1 (1976).
 use Rattle.std.specs.Prelude.{ℕ, not, Option, Some, None, List}
 use Rattle.std.specs.List.{find}
-use Rattle.std.specs.Option.{option_map_or}
-use Rattle.model_base.specs.declared.deed.Cause.TheVariants.{Never, Taken}
 use Rattle.model_base.specs.declared.deed.Deed.{Deed}
 use Rattle.model_base.specs.declared.deed.Need.{Need}
 use Rattle.model_base.specs.declared.statement.Form.{Form}
 use Rattle.model_base.specs.Outcomes.{cause, needs}
 use Rattle.model_base.specs.Privileges.{holds}
-use Rattle.grants.specs.Loss.{last_end}
-use Rattle.grants_base.specs.View.{View, entries}
+use Rattle.grants.specs.Loss.{cause_in}
+use Rattle.grants_base.specs.View.{View}
 use Rattle.checker.specs.declared.admission.Admission.{Admission}
 
 -- the first missing need denies, with its cause
@@ -26,4 +24,4 @@ admission owners deeds user form = admitted_if owners deeds user (find (λ need.
 -- the same by what the records of a view say: the first missing need denies, with the place at which it was lost last
 abbrev pub told_if : View → ℕ → Option Need → Admission
 told_if view user None = Admission.Admitted
-told_if view user (Some need) = Admission.Denied need (option_map_or Taken (last_end (entries view) user need) Never)
+told_if view user (Some need) = Admission.Denied need (cause_in view user need)

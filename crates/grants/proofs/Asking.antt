@@ -15,7 +15,7 @@ use Rattle.model_base.specs.Ranks.{kind_code}
 use Rattle.grants_base.specs.View.{View, slot_at}
 use Rattle.grants_base.proofs.Indexing.{code-same}
 use Rattle.grants.specs.Pass.{keeps}
-use Rattle.grants.specs.Work.{AllPassed, ArePassed, bears, kind_holder_cmp, kind_holder_key, same_kind_holder, staying}
+use Rattle.grants.specs.Work.{AllPassed, ArePassed, IsReplaced, bears, kind_holder_cmp, kind_holder_key, same_kind_holder, staying}
 use Rattle.grants.specs.declared.cascade.KindHolderKey.{KindHolderKey}
 use Rattle.grants.proofs.Asked.{not_false}
 use Rattle.grants.proofs.Passing.{same_kind-true}
@@ -105,8 +105,7 @@ module _ (revocation : Revocation) (view : View) where
       ]
 
   module _ (old now : BTreeMap KindHolderKey ℕ) (user slot : ℕ) (kind : Kind)
-      (told : (other : KindHolderKey) → get kind_holder_cmp now other
-      ≡ (if same_kind_holder (kind_holder_key user kind) other && is_some (get kind_holder_cmp old (kind_holder_key user kind)) then Some slot else get kind_holder_cmp old other)) where
+      (told : IsReplaced old now (kind_holder_key user kind) slot) where
     pub passed_kept : (ended : List ℕ) → ArePassed revocation view ended user kind slot → AllPassed revocation view ended old → AllPassed revocation view ended now
     passed_kept ended here passed = λ other s of is.
         let same = same_kind_holder (kind_holder_key user kind) (kind_holder_key other of) in

@@ -1,6 +1,6 @@
 //! The book of grants: each grant that was made, with its end.
 
-ghost use Rattle.std.specs.Prelude.{Decides, ◌+◌, ◌≡◌, ◌<◌, ◌++◌, ◌∷◌, [], true, ℕ, List, All, IfOk, IfSome, IsTrue, OnErr, OnOk, Some, length, map, slice_get};
+ghost use Rattle.std.specs.Prelude.{Decides, ◌+◌, ◌≡◌, ◌<◌, ◌++◌, ◌∷◌, [], true, ℕ, List, All, IfOk, IsTrue, OnErr, OnOk, Some, length, map, slice_get};
 ghost use Rattle.model_base.specs.declared.deed.Deed.TheVariants.{Granting, Revoking};
 ghost use Rattle.model_base.specs.declared.deed.Deed.{Deed};
 ghost use Rattle.model_base.specs.declared.deed.Grant.{Grant};
@@ -8,9 +8,6 @@ ghost use Rattle.model_base.specs.Privileges.{deeds_below, ended_by, option_of, 
 ghost use Rattle.model_base.specs.Ranks.{deed_number, rank};
 ghost use Rattle.model_base.specs.Records.{ended_at, recorded};
 ghost use Rattle.model_base.specs.declared.deed.Record.{Record};
-ghost use Rattle.grants_base.specs.Force.{gives_by, gives_to, is_in_force};
-ghost use Rattle.grants_base.specs.InForce.{IsNextInForce};
-ghost use Rattle.grants_base.specs.Index.{IsFirst, IsNext, is_by, is_to};
 ghost use Rattle.grants_base.specs.declared.entries.End.{End};
 ghost use Rattle.grants_base.specs.declared.entries.Creation.{Creation};
 
@@ -103,10 +100,10 @@ impl Book {
         Ok(Table(number as u32))
     }
 
-    /// Adds a grant last. The rank has to lie above those of all grants of the book, which may have its place, and the place above all tables
-    /// and ends; the table has to be one of the book's, and the grantor to hold the kind with the option by what was made below the place, as
-    /// `holds_option` says by the book's view. It takes a time that grows with the logarithm of the number of grants in force of its kind on
-    /// its table to its grantee, on average. On `Err`, out of memory, the book is as it was.
+    /// Adds a grant last. The rank has to lie above those of all grants of the book, which may have its place, and the place above all
+    /// tables and ends; the table has to be one of the book's, and the grantor to hold the kind with the option by what was made below the
+    /// place, as `holds_option` says by the book's view. It takes a time that grows with the logarithm of the number of grants in force of
+    /// its kind on its table to its grantee, on average. On `Err`, out of memory, the book is as it was.
     #[tactic(auto, using(crate::proofs::GrantLaws::shows_grant))]
     pub fn grant(&mut self, grant: Grant) -> Result<(), AllocError>
         requires later { IsNextRecord self.old grant }
@@ -134,51 +131,11 @@ impl Book {
         BookView { book: self, place }
     }
 
-    /// The least slot at or above this one whose grant is to the grantee, of the kind on the table.
-    fn next_to(&self, grantee: Grantee, kind: Kind, table: Table, from: usize) -> Option<usize>
-        ensures { IsNext (is_to grantee kind table) (recorded self.now.records) from result }
+    /// The records with their indexes.
+    fn indexed(&self) -> &IndexedRecords
+        ensures { result.now ≡ self.now.records }
     {
-        self.records.next_to(grantee, kind, table, from)
-    }
-
-    /// The least slot at or above this one whose grant is by the user, of the kind on the table.
-    fn next_by(&self, user: User, kind: Kind, table: Table, from: usize) -> Option<usize>
-        ensures { IsNext (is_by user kind table) (recorded self.now.records) from result }
-    {
-        self.records.next_by(user, kind, table, from)
-    }
-
-    /// The least slot at or above this one of a grant in force to the grantee, of the kind on the table, and the last end of such a grant;
-    /// of grants with the option, where it is asked for. None where that isn't known.
-    fn next_in_force(
-        &self,
-        grantee: Grantee,
-        kind: Kind,
-        table: Table,
-        option: bool,
-        from: usize,
-    ) -> Option<NextInForce>
-        ensures { IfSome result (λ next. IsNextInForce (gives_to grantee kind table option) self.now.records from next) }
-    {
-        self.records
-            .next_in_force(grantee, kind, table, option, from)
-    }
-
-    /// The least slot at or above this one of a grant in force by the user to the grantee, of the kind on the table. None where that
-    /// isn't known.
-    fn next_in_force_by(
-        &self,
-        user: User,
-        grantee: Grantee,
-        kind: Kind,
-        table: Table,
-        from: usize,
-    ) -> Option<NextBy>
-        ensures { IfSome result (λ next.
-            IsFirst (λ k. is_in_force (gives_by user grantee kind table) (slice_get self.now.records k)) from next.slot) }
-    {
-        self.records
-            .next_in_force_by(user, grantee, kind, table, from)
+        &self.records
     }
 
     /// Whether each grant and each end lies below a place. It looks at the last of each alone. Where it says no, some may not.
@@ -209,9 +166,9 @@ impl Book {
     }
 
     /// Ends the grants that the revocation takes out of force, at its place, and returns the names of their records in order. The place has
-    /// to lie above all of the book, and the table to be one of its tables. It costs what `to_end` does on the book's view, and for each grant
-    /// that ends the logarithm of the number of these and of the grants in force of its kind on its table to its grantee. On `Err` memory
-    /// was refused, and the book is as it was.
+    /// to lie above all of the book, and the table to be one of its tables. It costs what `to_end` does on the book's view, and for each
+    /// grant that ends the logarithm of the number of these and of the grants in force of its kind on its table to its grantee. On `Err`
+    /// memory ran out, and the book is as it was.
     pub fn revoke(
         &mut self,
         alloc: Global,
@@ -246,7 +203,7 @@ impl Book {
                 .all(|record| lies_below(record, place))
     }
 
-    /// Adds tables and grants after the others, the grants without an end, and then ends records by their slots. What is so put together
+    /// Adds tables and grants after the others, the grants without an end, and then ends records by their slots. What is so built
     /// has to be a book. Where the book showed some deeds, and the grants and ends are what more deeds make of their records, it then shows
     /// them all. Each table costs a time that doesn't grow with their number, on average, each grant the logarithm of the number of grants
     /// in force of its kind on its table to its grantee, and each end that and the logarithm of the number of these ends. Only where the
@@ -340,11 +297,11 @@ impl Records for BookView<'_> {
         table: Table,
         from: usize,
     ) -> Option<usize> {
-        self.book.next_to(grantee, kind, table, from)
+        self.book.indexed().next_to(grantee, kind, table, from)
     }
 
     fn next_by(&mut self, user: User, kind: Kind, table: Table, from: usize) -> Option<usize> {
-        self.book.next_by(user, kind, table, from)
+        self.book.indexed().next_by(user, kind, table, from)
     }
 
     fn next_in_force(
@@ -358,7 +315,9 @@ impl Records for BookView<'_> {
         if !self.book.lies_below(self.place) {
             return None;
         }
-        self.book.next_in_force(grantee, kind, table, option, from)
+        self.book
+            .indexed()
+            .next_in_force(grantee, kind, table, option, from)
     }
 
     fn next_in_force_by(
@@ -372,6 +331,8 @@ impl Records for BookView<'_> {
         if !self.book.lies_below(self.place) {
             return None;
         }
-        self.book.next_in_force_by(user, grantee, kind, table, from)
+        self.book
+            .indexed()
+            .next_in_force_by(user, grantee, kind, table, from)
     }
 }

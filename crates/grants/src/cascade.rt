@@ -1,14 +1,14 @@
 //! What a revocation takes with it.
 
-ghost use Rattle.std.specs.Prelude.{◌⊎◌, ◌&&◌, ◌==◌, not, false, ◌≡◌, ◌<◌, ◌≤◌, ◌+◌, ◌++◌, ℕ, List, Some, IfOk, IsSome, OnOk, drop, length, true, if◌then◌else◌, is_some, unwrap_or};
+ghost use Rattle.std.specs.Prelude.{◌⊎◌, ◌&&◌, ◌==◌, not, false, ◌≡◌, ◌<◌, ◌≤◌, ◌+◌, ℕ, List, Some, IfOk, IsSome, OnOk, length, true, is_some, unwrap_or};
 ghost use Rattle.std.specs.BTreeMap.{get};
 ghost use Rattle.std.specs.Option.{option_map_or};
 ghost use Rattle.model_base.specs.Privileges.{concerns, ended_by, names};
 ghost use Rattle.model_base.specs.declared.deed.Deed.{Deed};
 ghost use Rattle.model_base.specs.declared.deed.Grant.{Grant};
-ghost use Rattle.grants.specs.Pass.{cascade, concerned, concerned_grants, keeps, outlasts};
+ghost use Rattle.grants.specs.Pass.{concerned, keeps, outlasts};
 ghost use Rattle.grants_base.specs.Index.{is_one_of};
-ghost use Rattle.grants.specs.Work.{AllPassed, AreDue, AreEnds, ArePassed, IsStillBorne, IsNextCandidate, IsNextNamed, bears, kind_holder_cmp, kind_holder_key, same_kind_holder, slots_of, staying};
+ghost use Rattle.grants.specs.Work.{AllPassed, AreDue, AreDueOrBorne, AreEnds, ArePassed, IsNextCandidate, IsNextNamed, IsReplaced, bears, ended_in_all, kind_holder_cmp, kind_holder_key, slots_of, staying};
 ghost use Rattle.grants.specs.declared.cascade.KindHolderKey.{KindHolderKey};
 ghost use Rattle.grants_base.specs.View.{ShowsDeeds, slot_at};
 
@@ -169,11 +169,7 @@ fn passed_by(asked: &BTreeMap<KindHolderKey, usize>, holder: &KindHolder) -> usi
 
 /// Keeps that slot, if the holder is one of those that are asked about.
 fn pass(asked: &mut BTreeMap<KindHolderKey, usize>, holder: &KindHolder, slot: usize)
-    ensures { (other : KindHolderKey) → get kind_holder_cmp asked.new other
-        ≡ (if same_kind_holder (kind_holder_key holder.now.user holder.now.kind) other
-        && is_some (get kind_holder_cmp asked.old (kind_holder_key holder.now.user holder.now.kind))
-        then Some slot
-        else get kind_holder_cmp asked.old other) }
+    ensures { IsReplaced asked.old asked.new (kind_holder_key holder.now.user holder.now.kind) slot }
 {
     if let Some(passed) = asked.get_mut(&holder.key()) {
         *passed = slot;
@@ -378,10 +374,8 @@ fn lose<V: Records>(
     work: &mut CascadeWork,
 ) -> Result<(), AllocError>
     requires { AllPassed revocation.now (V.shown view.old) (slots_of work.old.ended.ends) work.old.asked }
-    ensures found { OnOk result ((j : ℕ) (grant : Grant) → start ≤ j → concerned (slot_at (V.shown view.old) j) revocation.now ≡ Some grant
-        → grant.grantor ≡ holder.now.user → grant.kind ≡ holder.now.kind
-        → (is_one_of work.new.due j ≡ true)
-        ⊎ IsStillBorne revocation.now (V.shown view.old) (slots_of work.old.ended.ends) holder.now.user holder.now.kind j) }
+    ensures found { OnOk result (AreDueOrBorne revocation.now (V.shown view.old) work.new.due (slots_of work.old.ended.ends)
+        holder.now.user holder.now.kind start) }
     ensures kept { OnOk result ((j : ℕ) → is_one_of work.old.due j ≡ true → is_one_of work.new.due j ≡ true) }
     ensures within { OnOk result ((j : ℕ) → is_one_of work.new.due j ≡ true
         → (is_one_of work.old.due j ≡ true) ⊎ ((start ≤ j) × (j < length (V.shown view.old).slots))) }
@@ -415,14 +409,8 @@ fn judge<V: Records>(
     requires ends { AreEnds revocation.now (V.shown view.old) work.old.ended.ends work.old.ended.ranks }
     ensures due { OnOk result (AreDue revocation.now (V.shown view.old) work.new.due (slots_of work.new.ended.ends) next) }
     ensures passed { OnOk result (AllPassed revocation.now (V.shown view.old) (slots_of work.new.ended.ends) work.new.asked) }
-    ensures whole { OnOk result (work.new.ended.ranks
-        ++ cascade owner revocation.now
-        (staying revocation.now (V.shown view.old) (slots_of work.new.ended.ends) next)
-        (concerned_grants revocation.now (drop next (V.shown view.old).slots))
-        ≡ work.old.ended.ranks
-        ++ cascade owner revocation.now
-        (staying revocation.now (V.shown view.old) (slots_of work.old.ended.ends) slot)
-        (concerned_grants revocation.now (drop slot (V.shown view.old).slots))) }
+    ensures whole { OnOk result (ended_in_all owner revocation.now (V.shown view.old) work.new.ended next
+        ≡ ended_in_all owner revocation.now (V.shown view.old) work.old.ended slot) }
     ensures ends { OnOk result (AreEnds revocation.now (V.shown view.old) work.new.ended.ends work.new.ended.ranks) }
     ensures same { V.shown view.new ≡ V.shown view.old }
 {

@@ -33,13 +33,17 @@ abbrev pub IsCreatedBelow : ℕ → Option Creation → Type 0
 IsCreatedBelow place None = ⊥
 IsCreatedBelow place (Some creation) = creation.place < place
 
+-- the table of each grant was created below the grant's place
+abbrev pub AreCreatedFirst : Entries → Type 0
+AreCreatedFirst book = All (λ (entry : Record). IsCreatedBelow entry.grant.place (slice_get book.tables entry.grant.table)) book.records
+
 -- what holds of each book
 pub record IsSoundBook (book : Entries) : Type 0 where
   pub few : length book.tables ≤ MOST_NAMES
   pub tables : AreRising book.tables
   pub rising : IsRising (recorded book.records)
   pub ends : All (λ (entry : Record). IfSome entry.end (λ end. entry.grant.place < end)) book.records
-  pub created : All (λ (entry : Record). IsCreatedBelow entry.grant.place (slice_get book.tables entry.grant.table)) book.records
+  pub created : AreCreatedFirst book
   pub authorised : AreAuthorised (slice_get (owners_of book.tables)) [] book.records
 
 -- the place lies above those of all tables, grants and ends of the book

@@ -1,8 +1,8 @@
 //! The slots whose records ended, in the order of the places of their ends.
 
-ghost use Rattle.std.specs.Prelude.{◌≡◌, ◌<◌, ◌≤◌, ◌-◌, ℕ, false, true, All, IfNone, IfOk, IfSome, OnOk, length, slice_index_or, vec_len};
+ghost use Rattle.std.specs.Prelude.{◌≡◌, ◌<◌, ◌≤◌, ◌-◌, ℕ, false, true, IfNone, IfOk, IfSome, OnOk, length, slice_index_or, vec_len};
 ghost use Rattle.std.specs.List.Sorted.{IsNonDecreasingBy, IsPermutation};
-ghost use Rattle.grants_base.specs.Marks.{AreInOrder, has_ending, same_ending};
+ghost use Rattle.grants_base.specs.Marks.{AreInOrder, HasAllEnds, KeepsEndings, has_ending, same_ending};
 ghost use Rattle.grants_base.specs.declared.entries.End.{End};
 ghost use Rattle.grants_base.specs.declared.endings.Ending.{Ending};
 
@@ -59,7 +59,7 @@ pub(crate) fn reaches(endings: &[Ending], place: Place) -> bool
 fn note_one(endings: &mut Vec<Ending>, ending: Ending) -> Result<(), AllocError>
     requires order { AreInOrder endings.old.items }
     ensures order { AreInOrder endings.new.items }
-    ensures kept { (place slot : ℕ) → has_ending endings.old.items place slot ≡ true → has_ending endings.new.items place slot ≡ true }
+    ensures kept { KeepsEndings endings.old.items endings.new.items }
     ensures noted { OnOk result (has_ending endings.new.items ending.place ending.slot ≡ true) }
 {
     let i = endings_to(endings.as_slice(), ending.place);
@@ -68,12 +68,12 @@ fn note_one(endings: &mut Vec<Ending>, ending: Ending) -> Result<(), AllocError>
 }
 
 /// Notes the ends of some slots, each after those at its place and below; where later ones were noted before, these are moved. On `Err`
-/// memory was refused, and some of them are noted.
+/// memory ran out, and some of them are noted.
 pub(crate) fn note(endings: &mut Vec<Ending>, ends: &[End]) -> Result<(), AllocError>
     requires order { AreInOrder endings.old.items }
     ensures order { AreInOrder endings.new.items }
-    ensures kept { (place slot : ℕ) → has_ending endings.old.items place slot ≡ true → has_ending endings.new.items place slot ≡ true }
-    ensures noted { OnOk result (All (λ (end : End). has_ending endings.new.items end.place end.slot ≡ true) ends.now) }
+    ensures kept { KeepsEndings endings.old.items endings.new.items }
+    ensures noted { OnOk result (HasAllEnds endings.new.items ends.now) }
 {
     for end in ends {
         let ending = Ending {
@@ -100,8 +100,8 @@ fn by_place(alloc: Global, ends: &[End]) -> Result<Vec<End>, AllocError>
 pub(crate) fn note_by_place(endings: &mut Vec<Ending>, ends: &[End]) -> Result<(), AllocError>
     requires order { AreInOrder endings.old.items }
     ensures order { AreInOrder endings.new.items }
-    ensures kept { (place slot : ℕ) → has_ending endings.old.items place slot ≡ true → has_ending endings.new.items place slot ≡ true }
-    ensures noted { OnOk result (All (λ (end : End). has_ending endings.new.items end.place end.slot ≡ true) ends.now) }
+    ensures kept { KeepsEndings endings.old.items endings.new.items }
+    ensures noted { OnOk result (HasAllEnds endings.new.items ends.now) }
 {
     let alloc = *endings.allocator();
     let sorted = by_place(alloc, ends)?;

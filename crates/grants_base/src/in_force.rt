@@ -16,7 +16,7 @@ use model_base::{Grant, HashSeed, Place, Record, User};
 use std::alloc::{AllocError, Global};
 use std::collections::HashMap;
 
-/// What is in force under each grantee, kind and table. Where memory was refused, or grants and ends were taken back, it isn't whole any
+/// What is in force under each grantee, kind and table. Where memory ran out, or grants and ends were taken back, it isn't whole any
 /// more: then it says nothing.
 #[derive(Drop)]
 pub(crate) struct InForceIndex {

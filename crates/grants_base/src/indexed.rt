@@ -51,7 +51,7 @@ fn by_side(grant: &Grant) -> HolderKey
     side_of(Grantee::User(grant.grantor), grant.kind, grant.table)
 }
 
-/// Adds the slot of a grant last under its grantee and its grantor, or under neither: then memory was refused.
+/// Adds the slot of a grant last under its grantee and its grantor, or under neither: then memory ran out.
 fn push_slot(to: &mut Index, by: &mut Index, grant: &Grant, slot: usize) -> Result<(), AllocError>
     ensures to { OnOk result (IsPushed (to_side grant.now) slot to.old to.new) }
     ensures by { OnOk result (IsPushed (by_side grant.now) slot by.old by.new) }
@@ -126,17 +126,19 @@ impl IndexedRecords {
     pub fn seeded(alloc: Global, seed: HashSeed) -> Self
         ensures { result ≡ [] }
     {
-        IndexedRecords {
-            records: Vec::new(alloc),
-            to: Index::seeded(alloc, seed),
-            by: Index::seeded(alloc, seed),
-            endings: Vec::new(alloc),
-            in_force: InForceIndex::seeded(alloc, seed),
-        }
+        IndexedRecords::begun(alloc, seed, InForceIndex::seeded(alloc, seed))
     }
 
     /// No records, which are found under this seed. Those in force are not kept by themselves. It doesn't allocate.
     pub(crate) fn plain(alloc: Global, seed: HashSeed) -> Self
+        ensures { result ≡ [] }
+    {
+        IndexedRecords::begun(alloc, seed, InForceIndex::silent(alloc))
+    }
+
+    /// No records, with an index of those in force.
+    fn begun(alloc: Global, seed: HashSeed, in_force: InForceIndex) -> Self
+        requires { KeepsInForce in_force [] }
         ensures { result ≡ [] }
     {
         IndexedRecords {
@@ -144,7 +146,7 @@ impl IndexedRecords {
             to: Index::seeded(alloc, seed),
             by: Index::seeded(alloc, seed),
             endings: Vec::new(alloc),
-            in_force: InForceIndex::silent(alloc),
+            in_force,
         }
     }
 
@@ -205,7 +207,7 @@ impl IndexedRecords {
     }
 
     /// Adds the records of grants last, without an end, and then ends records by their slots, one after the other. On `Err`
-    /// memory was refused, and the records are as they were.
+    /// memory ran out, and the records are as they were.
     pub fn extend(&mut self, grants: &[Grant], ends: &[End]) -> Result<(), AllocError>
         requires { All (λ (end : End). end.slot < length self.old + length grants.now) ends.now }
         ensures ok { OnOk result (self.new ≡ end_slots (self.old ++ map unended grants.now) ends.now) }
@@ -251,7 +253,7 @@ impl IndexedRecords {
 
     /// The least slot at or above this one of a grant in force to the grantee, of the kind on the table, and the last end of such a
     /// grant; of grants with the option, where it is asked for. It takes a time that grows with the logarithm of the number of those
-    /// in force. None where that isn't known: after records or ends were taken back, or where memory was refused.
+    /// in force. None where that isn't known: after records or ends were taken back, or where memory ran out.
     pub fn next_in_force(
         &self,
         grantee: Grantee,

@@ -1,9 +1,0 @@
-use Rattle.std.proofs.Common.{subst}
-use Rattle.model_base.specs.Records.{recorded}
-use Rattle.grants_base.specs.Book.{Entries}
-use Rattle.grants_base.specs.Index.{IsNext, is_by}
-use Rattle.grants.proofs.book.Book.next_by.Goals as goal
-
-pub returns : goal.returns
-returns c =
-    subst (λ (book : Entries). IsNext (is_by c.args.user c.args.kind c.args.table) (recorded book.records) c.args.from c.next_by.result) c.self.view_is c.next_by.ensures
