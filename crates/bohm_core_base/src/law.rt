@@ -15,7 +15,7 @@ ghost use Rattle.bohm_core_base.specs.declared.hold.Hold.TheVariants.{Done, Free
 /// are done no end is missing. Once all places of a beginning of the batch are done, the last versions of the rows by these
 /// places, and the deeds of those of them that were done, are those after the serial run of the beginning; the whole batch is
 /// one. What is stored stays, and what is done stays done. A place that every partition has placed has all its references, and
-/// only such a place is held or done; one that has a word is held or done, and all that it refers to is done. Once that is so,
+/// only such a place is held or done; one that has a word is held or done, and all that it refers to is done. Once that holds,
 /// each earlier place with a deed on one of its tables is done, the ends of the records on its tables that lie below it are
 /// those of the serial run, and the place is shown what the serial run shows it. Where an actor holds a place and all that it
 /// refers to is done, the events of others change neither what it is shown nor what it has to store next.

@@ -77,7 +77,7 @@ abbrev pub AreNoted : Held → List Written → Type 0
 AreNoted held notes = (key : Key) → newest_is_noted notes (of_key key held.versions) ≡ true
 
 -- the mark isn't past the end; the versions of each key are in the order of their places, below the end; the writes of those that replaced
--- an older one are in the order of their places, none of them below the mark; and the notes of versions in which a row is absent stand so
+-- an older one are in the order of their places, none of them below the mark; and the notes of versions in which a row is absent are so
 -- too, among them each of the mark or a later place
 pub record IsStoreKept (held : Held) (absent : List Written) (mark end : ℕ) : Type 0 where
   pub within : mark ≤ end

@@ -90,8 +90,8 @@ AreBetween first end [] = first ≤ end
 AreBetween first end (version ∷ versions) =
     (first ≤ version.place) × (version.place < end) × AreBetween version.place end versions
 
--- the store has gained these versions, up to a new end: before the places from its mark to its old end it says what it told, and before
--- those from there to the new end the newest of these versions, or where none is older what it told at its old end
+-- the store has gained these versions, up to a new end: before the places from its mark to its old end it says what it said, and before
+-- those from there to the new end the newest of these versions, or where none is older what it said at its old end
 pub record Gains (old new : Store) (cells : List Version) (new_end : ℕ) : Type 0 where
   pub mark : new.mark ≡ old.mark
   pub end : new.end ≡ new_end

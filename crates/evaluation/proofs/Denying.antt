@@ -92,12 +92,12 @@ module _ (owners : List ℕ) (place : ℕ) (world : World) (statement : Statemen
   admitted_is None is = refl
   admitted_is (Some other) is = absurd (cc)
 
-  module _ (window : Window) (other : (table columns : ℕ) → statement.form ≡ Form.Create table columns → ⊥) where
+  module _ (other : (table columns : ℕ) → statement.form ≡ Form.Create table columns → ⊥) where
     -- a denial leaves the rows that were found
-    pub denied_tells : (need : Need) (why : Cause) → WindowShows (accesses_of statement.form) window world.rows
+    pub denied_tells : (window : Window) (need : Need) (why : Cause) → WindowShows (accesses_of statement.form) window world.rows
         → Admission.Denied need why ≡ admission owners world.deeds statement.user statement.form
-        → Tells statement window (at_place owners place world statement) (Outcome.Denied need why) window
-    denied_tells need why shows is =
+        → Tells statement (at_place owners place world statement) (Outcome.Denied need why) window
+    denied_tells window need why shows is =
         let comes : at_place owners place world statement ≡ (Outcome.Denied need why, world) =
         by_form statement.form other ∙ denied_is (missing owners world statement.user statement.form) need why is in
         rw comes (record { told = refl; rows = shows })
@@ -105,8 +105,8 @@ module _ (owners : List ℕ) (place : ℕ) (world : World) (statement : Statemen
     -- a statement that is admitted results in what its body and its deed result in
     pub admitted_tells : (outcome : Outcome) (after : Window)
         → Admission.Admitted ≡ admission owners world.deeds statement.user statement.form
-        → Tells statement window (judged owners place world statement None) outcome after
-        → Tells statement window (at_place owners place world statement) outcome after
+        → Tells statement (judged owners place world statement None) outcome after
+        → Tells statement (at_place owners place world statement) outcome after
     admitted_tells outcome after is tells =
         let comes : at_place owners place world statement ≡ judged owners place world statement None =
         by_form statement.form other

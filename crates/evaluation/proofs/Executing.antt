@@ -33,7 +33,7 @@ module _ (statement : Statement) (window after : Window) (fits : HasFittingBody 
       shows_rows (accesses_of statement.form) after.rows rows apart (omega arith)
 
   pub completed_tells : (owners : List ℕ) (place : ℕ) (world : World) → WindowShows (accesses_of statement.form) window world.rows
-      → Tells statement window (judged owners place world statement None) (Outcome.Done outputs DeedDone.None) after
+      → Tells statement (judged owners place world statement None) (Outcome.Done outputs DeedDone.None) after
   completed_tells owners place world shows = rw (ends world.rows shows) (record { told = refl; rows = shown world.rows })
 
   pub completed_keeps : KeepsShaped statement window after

@@ -24,13 +24,21 @@ use Rattle.evaluation.proofs.InForce.{ended-at, in-force-low, out-at, shown-at}
 use Rattle.evaluation.proofs.LastEnds.{last-more, records-latest, records-there}
 
 -- what a slot shows, by its grant and its end
-pub open-parts : (passes : Grant → Bool) (slot : Option Record) → open_grant passes (grant_in slot) (end_in slot) ≡ is_in_force passes slot
+open-parts : (passes : Grant → Bool) (slot : Option Record) → open_grant passes (grant_in slot) (end_in slot) ≡ is_in_force passes slot
 open-parts passes None = refl
 open-parts passes (Some entry) = refl
 
-pub end-parts : (passes : Grant → Bool) (slot : Option Record) → sought_end passes (grant_in slot) (end_in slot) ≡ slot_end passes slot
+end-parts : (passes : Grant → Bool) (slot : Option Record) → sought_end passes (grant_in slot) (end_in slot) ≡ slot_end passes slot
 end-parts passes None = refl
 end-parts passes (Some entry) = refl
+
+pub open-shown : (passes : Grant → Bool) (slot : Option Record) (grant : Option Grant) (end : Option ℕ) → grant ≡ grant_in slot → end ≡ end_in slot
+    → open_grant passes grant end ≡ is_in_force passes slot
+open-shown passes slot grant end given ended = rw (given, ended) (open-parts passes slot)
+
+pub end-shown : (passes : Grant → Bool) (slot : Option Record) (grant : Option Grant) (end : Option ℕ) → grant ≡ grant_in slot → end ≡ end_in slot
+    → sought_end passes grant end ≡ slot_end passes slot
+end-shown passes slot grant end given ended = rw (given, ended) (end-parts passes slot)
 
 -- a place that is looked at is one that was looked at before
 pub last-same : (passes : Grant → Bool) (view : View) (looked more : ℕ → Bool) (last : Option ℕ) → IsLastEnd passes view looked last

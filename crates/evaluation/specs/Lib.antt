@@ -1,4 +1,5 @@
 pub mod Answering
+pub mod Ends
 pub mod Judged
 pub mod Keeping
 pub mod ReadSource

@@ -3,7 +3,7 @@
 -- reference to the newest version that is older than the reader, which is complete before the reader runs: J. M. Faleiro and
 -- D. J. Abadi, "Rethinking Serializable Multiversion Concurrency Control", PVLDB 8 (2015), section 3; that deeds are read in
 -- the same way is this project's own.
-use Rattle.std.specs.Prelude.{◌≡◌, ◌<◌, ℕ, Bool, suc, zero, false, true, Option, None, Some, List, [], length, map, slice_index_or}
+use Rattle.std.specs.Prelude.{◌≡◌, ◌<◌, ◌+◌, ℕ, Bool, suc, zero, false, true, Option, None, Some, List, [], length, map, slice_index_or}
 use Rattle.model_base.specs.declared.deed.Grant.{Grant}
 use Rattle.model_base.specs.declared.row.Key.{Key}
 use Rattle.model_base.specs.Ranks.{rank}
@@ -26,6 +26,10 @@ pub record RangePlace : Type 0 where
 
 abbrev pub reader_of : RangePlace → Reader
 reader_of place = record { batch = batch_of place.ranged; index = place.index }
+
+-- the place of the log that the reader has, in a range of it
+abbrev pub place_in_log : LogRange → Reader → ℕ
+place_in_log ranged reader = ranged.first + reader.index
 
 -- what a reader did itself that is a pass over shared words: its number and its events, the events of passes that it took in,
 -- when it found which places held, how many bodies it ran, whether it is the only pass, whether it was taken in,

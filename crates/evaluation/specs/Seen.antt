@@ -7,7 +7,7 @@ use Rattle.model_base.specs.Records.{end_below}
 use Rattle.grants_base.specs.View.{View}
 use Rattle.bohm_core_base.specs.Batch.{is_listed, batch_slots}
 use Rattle.log_batch.specs.Supplied.{LogRange, batch_of}
-use Rattle.evaluation.specs.ReadSource.{ends_whole, made_whole}
+use Rattle.evaluation.specs.ReadSource.{Reader, ends_whole, made_whole}
 
 -- the record of a slot as a place is shown it, if its grant is on one of the tables, was made, and is below the place
 abbrev pub slot_seen : List ℕ → ℕ → (ℕ → Bool) → Grant → Option ℕ → Option Record
@@ -47,3 +47,7 @@ seen_at ranged index = record {
   slots = slots_seen ((batch_of ranged).tables index) (ranged.first + index) (made_whole (batch_of ranged))
       (batch_slots (batch_of ranged)) (ends_whole (batch_of ranged));
 }
+
+-- the view that a reader is shown, in a range of a log
+abbrev pub shown_to : LogRange → Reader → View
+shown_to ranged reader = seen_view (seen_at ranged reader.index)

@@ -8,11 +8,11 @@ ghost use Rattle.grants_base.specs.View.{entries, slot_at};
 ghost use Rattle.bohm_core_base.specs.Batch.{batch_slots, is_listed};
 ghost use Rattle.log_batch.specs.Earlier.{earlier_count, records_before};
 ghost use Rattle.log_batch.specs.Supplied.{batch_of};
-ghost use Rattle.evaluation.specs.Seen.{seen_at, seen_view};
+ghost use Rattle.evaluation.specs.Seen.{shown_to};
 ghost use Rattle.evaluation.specs.Sought.{IsLastEnd, is_sought, is_wanted, open_grant, slot_end, sought_end};
 
 use crate::read_source::ReadSource;
-use crate::records::{end_of_shown, grant_shown};
+use crate::records::record_shown;
 use grants::{NextBy, is_to};
 use grants_base::later;
 use log_batch::LogBatch;
@@ -112,41 +112,6 @@ pub(crate) fn lost_at_start(batch: &LogBatch, sought: &Sought) -> Option<LastEnd
     }
 }
 
-/// Whether the reader is shown one of these grants in a slot, in force.
-fn is_shown_in_force<T: ReadSource>(
-    batch: &LogBatch,
-    source: &mut T,
-    sought: &Sought,
-    slot: usize,
-) -> bool
-    requires batch { (T.as_reader source.old).batch ≡ batch_of batch.now }
-    requires within { slot < length (batch_slots (batch_of batch.now)) }
-    ensures value { result ≡ is_in_force (is_sought sought.now)
-        (slot_at (seen_view (seen_at batch.now (T.as_reader source.old).index)) slot) }
-    ensures same { (T.as_reader source.new ≡ T.as_reader source.old) × (T.work source.new ≡ T.work source.old) }
-{
-    let grant = grant_shown(batch, source, slot);
-    let end = end_of_shown(batch, source, slot, &grant);
-    is_open(sought, &grant, end)
-}
-
-/// The end of a slot's record, if the reader is shown one of these grants there and it has ended.
-fn end_sought<T: ReadSource>(
-    batch: &LogBatch,
-    source: &mut T,
-    sought: &Sought,
-    slot: usize,
-) -> Option<Place>
-    requires batch { (T.as_reader source.old).batch ≡ batch_of batch.now }
-    requires within { slot < length (batch_slots (batch_of batch.now)) }
-    ensures value { result ≡ slot_end (is_sought sought.now) (slot_at (seen_view (seen_at batch.now (T.as_reader source.old).index)) slot) }
-    ensures same { (T.as_reader source.new ≡ T.as_reader source.old) × (T.work source.new ≡ T.work source.old) }
-{
-    let grant = grant_shown(batch, source, slot);
-    let end = end_of_shown(batch, source, slot, &grant);
-    end_if_sought(sought, &grant, end)
-}
-
 /// The least slot at or above this one of such a grant from before the batch that the reader is shown in force. It goes through
 /// those in force as the batch began up to it. None where these aren't known.
 fn next_earlier<T: ReadSource>(
@@ -158,7 +123,7 @@ fn next_earlier<T: ReadSource>(
     requires { (T.as_reader source.old).batch ≡ batch_of batch.now }
     ensures next { IfSome result (λ next.
         IsFirst (λ k. nat_lt k (earlier_count (batch_of batch.now))
-        && is_in_force (is_sought sought.now) (slot_at (seen_view (seen_at batch.now (T.as_reader source.old).index)) k)) start next.slot) }
+        && is_in_force (is_sought sought.now) (slot_at (shown_to batch.now (T.as_reader source.old)) k)) start next.slot) }
     ensures same { (T.as_reader source.new ≡ T.as_reader source.old) × (T.work source.new ≡ T.work source.old) }
 {
     let count = batch.earlier_count();
@@ -170,7 +135,8 @@ fn next_earlier<T: ReadSource>(
         let Some(slot) = next.slot else {
             return Some(NextBy { slot: None });
         };
-        if is_shown_in_force(batch, source, sought, slot) {
+        let (grant, end) = record_shown(batch, source, slot);
+        if is_open(sought, &grant, end) {
             return Some(NextBy { slot: Some(slot) });
         }
         from = slot + 1;
@@ -189,7 +155,7 @@ fn next_own<T: ReadSource>(
     requires batch { (T.as_reader source.old).batch ≡ batch_of batch.now }
     requires own { earlier_count (batch_of batch.now) ≤ start }
     ensures next { IsFirst
-        (λ k. is_in_force (is_sought sought.now) (slot_at (seen_view (seen_at batch.now (T.as_reader source.old).index)) k))
+        (λ k. is_in_force (is_sought sought.now) (slot_at (shown_to batch.now (T.as_reader source.old)) k))
         start result }
     ensures same { (T.as_reader source.new ≡ T.as_reader source.old) × (T.work source.new ≡ T.work source.old) }
 {
@@ -199,7 +165,8 @@ fn next_own<T: ReadSource>(
         let Some(slot) = batch.next_own_to(&sought.grantee, sought.kind, sought.table, from) else {
             return None;
         };
-        if is_shown_in_force(batch, source, sought, slot) {
+        let (grant, end) = record_shown(batch, source, slot);
+        if is_open(sought, &grant, end) {
             return Some(slot);
         }
         from = slot + 1;
@@ -217,7 +184,7 @@ pub(crate) fn next_shown<T: ReadSource>(
 ) -> Option<NextBy>
     requires { (T.as_reader source.old).batch ≡ batch_of batch.now }
     ensures next { IfSome result (λ next.
-        IsFirst (λ k. is_in_force (is_sought sought.now) (slot_at (seen_view (seen_at batch.now (T.as_reader source.old).index)) k))
+        IsFirst (λ k. is_in_force (is_sought sought.now) (slot_at (shown_to batch.now (T.as_reader source.old)) k))
         from next.slot) }
     ensures same { (T.as_reader source.new ≡ T.as_reader source.old) × (T.work source.new ≡ T.work source.old) }
 {
@@ -244,7 +211,7 @@ fn last_earlier<T: ReadSource>(
     requires batch { (T.as_reader source.old).batch ≡ batch_of batch.now }
     requires listed { is_listed ((batch_of batch.now).tables (T.as_reader source.old).index) sought.now.table ≡ true }
     requires before { before ≡ greatest_end (is_sought sought.now) (records_before (batch_of batch.now)) }
-    ensures last { IfSome result (λ last. IsLastEnd (is_sought sought.now) (seen_view (seen_at batch.now (T.as_reader source.old).index))
+    ensures last { IfSome result (λ last. IsLastEnd (is_sought sought.now) (shown_to batch.now (T.as_reader source.old))
         (λ k. nat_lt k (earlier_count (batch_of batch.now))) last.place) }
     ensures same { (T.as_reader source.new ≡ T.as_reader source.old) × (T.work source.new ≡ T.work source.old) }
 {
@@ -258,7 +225,8 @@ fn last_earlier<T: ReadSource>(
         let Some(slot) = next.slot else {
             return Some(LastEnd { place });
         };
-        place = later(place, end_sought(batch, source, sought, slot));
+        let (grant, end) = record_shown(batch, source, slot);
+        place = later(place, end_if_sought(sought, &grant, end));
         from = slot + 1;
     }
     Some(LastEnd { place })
@@ -275,9 +243,9 @@ fn last_own<T: ReadSource>(
 ) -> Option<Place>
     requires batch { (T.as_reader source.old).batch ≡ batch_of batch.now }
     requires own { earlier_count (batch_of batch.now) ≤ start }
-    requires before { IsLastEnd (is_sought sought.now) (seen_view (seen_at batch.now (T.as_reader source.old).index))
+    requires before { IsLastEnd (is_sought sought.now) (shown_to batch.now (T.as_reader source.old))
         (λ k. nat_lt k start) before.place }
-    ensures last { result ≡ greatest_end (is_sought sought.now) (entries (seen_view (seen_at batch.now (T.as_reader source.old).index))) }
+    ensures last { result ≡ greatest_end (is_sought sought.now) (entries (shown_to batch.now (T.as_reader source.old))) }
     ensures same { (T.as_reader source.new ≡ T.as_reader source.old) × (T.work source.new ≡ T.work source.old) }
 {
     let count = batch.slot_count();
@@ -287,7 +255,8 @@ fn last_own<T: ReadSource>(
         let Some(slot) = batch.next_own_to(&sought.grantee, sought.kind, sought.table, from) else {
             return place;
         };
-        place = later(place, end_sought(batch, source, sought, slot));
+        let (grant, end) = record_shown(batch, source, slot);
+        place = later(place, end_if_sought(sought, &grant, end));
         from = slot + 1;
     }
     place
@@ -305,7 +274,7 @@ pub(crate) fn last_shown<T: ReadSource>(
     requires listed { is_listed ((batch_of batch.now).tables (T.as_reader source.old).index) sought.now.table ≡ true }
     requires before { before ≡ greatest_end (is_sought sought.now) (records_before (batch_of batch.now)) }
     ensures last { IfSome result (λ last.
-        last.place ≡ greatest_end (is_sought sought.now) (entries (seen_view (seen_at batch.now (T.as_reader source.old).index)))) }
+        last.place ≡ greatest_end (is_sought sought.now) (entries (shown_to batch.now (T.as_reader source.old)))) }
     ensures same { (T.as_reader source.new ≡ T.as_reader source.old) × (T.work source.new ≡ T.work source.old) }
 {
     let Some(last) = last_earlier(batch, source, sought, before) else {

@@ -1,18 +1,14 @@
 //! What a place stores and ends, by what it is shown.
 
-ghost use Rattle.std.specs.Prelude.{◌≡◌, ◌==◌, ◌+◌, ℕ, true, Some, IfOk, slice_get};
-ghost use Rattle.std.specs.List.{list_any};
+ghost use Rattle.std.specs.Prelude.{◌≡◌, true, Some, IfOk};
 ghost use Rattle.std.specs.List.Sorted.{IsStrictlyIncreasing};
-ghost use Rattle.model_base.specs.declared.deed.Grant.{Grant};
-ghost use Rattle.model_base.specs.declared.statement.Statement.{Statement};
-ghost use Rattle.model_base.specs.Outcomes.{deeds_before, deeds_of, owners};
-ghost use Rattle.model_base.specs.Ranks.{rank};
 ghost use Rattle.own_words.specs.Places.{words_at};
-ghost use Rattle.evaluation.specs.Answering.{ended_by_deeds};
 ghost use Rattle.sequencer.specs.Whole.{columns_by};
-ghost use Rattle.bohm_core_base.specs.Batch.{batch_slots, was_done};
-ghost use Rattle.bohm_core_base.specs.Serial.{serial_ends, serial_words};
+ghost use Rattle.bohm_core_base.specs.Batch.{was_done};
+ghost use Rattle.bohm_core_base.specs.Serial.{serial_words};
 ghost use Rattle.log_batch.specs.Supplied.{batch_of};
+ghost use Rattle.evaluation.specs.Ends.{AreEndsInLog, NamesEnded};
+ghost use Rattle.evaluation.specs.ReadSource.{place_in_log};
 
 use crate::place_words::own_words;
 use crate::read_source::ReadSource;
@@ -40,7 +36,7 @@ fn judge<T: ReadSource, P: Pinned>(batch: &LogBatch<'_>, source: T, words: &mut 
     requires place { Some (T.as_reader source) ≡ P.as_reader }
     requires kept { Some (T.work source) ≡ P.work }
     ensures value { words.new ≡ words_at (columns_by batch.now.log.names) batch.now.log.statements
-        (batch.now.first + (T.as_reader source).index) }
+        (place_in_log batch.now (T.as_reader source)) }
     ensures place { Some (T.as_reader result) ≡ P.as_reader }
     ensures kept { Some (T.work result) ≡ P.work }
 {
@@ -68,7 +64,7 @@ fn judge<T: ReadSource, P: Pinned>(batch: &LogBatch<'_>, source: T, words: &mut 
 pub fn words_by_source<T: ReadSource>(batch: &LogBatch<'_>, source: T, words: &mut OwnWords) -> T
     requires batch { (T.as_reader source).batch ≡ batch_of batch.now }
     ensures value { words.new ≡ words_at (columns_by batch.now.log.names) batch.now.log.statements
-        (batch.now.first + (T.as_reader source).index) }
+        (place_in_log batch.now (T.as_reader source)) }
     ensures serial { words.new ≡ serial_words (batch_of batch.now) (T.as_reader source).index }
     ensures same { (T.as_reader result ≡ T.as_reader source) × (T.work result ≡ T.work source) }
 {
@@ -85,12 +81,8 @@ fn judge_ends<T: ReadSource, P: Pinned>(
     requires batch { (T.as_reader source).batch ≡ batch_of batch.now }
     requires place { Some (T.as_reader source) ≡ P.as_reader }
     requires kept { Some (T.work source) ≡ P.work }
-    ensures value { (statement : Statement)
-        → slice_get batch.now.log.statements (batch.now.first + (T.as_reader source).index) ≡ Some statement
-        → IfOk result.1 (λ names. names.items
-        ≡ ended_by_deeds (owners batch.now.log.statements)
-        (deeds_before batch.now.log.statements (batch.now.first + (T.as_reader source).index))
-        (deeds_of (batch.now.first + (T.as_reader source).index) statement.user statement.form)) }
+    ensures value { IfOk result.1 (λ names.
+        AreEndsInLog batch.now.log.statements (place_in_log batch.now (T.as_reader source)) names.items) }
     ensures place { Some (T.as_reader result.0) ≡ P.as_reader }
     ensures kept { Some (T.work result.0) ≡ P.work }
 {
@@ -118,8 +110,7 @@ pub fn ends_by_source<T: ReadSource>(
 ) -> (T, Result<Vec<RecordName>, AllocError>)
     requires batch { (T.as_reader source).batch ≡ batch_of batch.now }
     requires done { was_done (serial_words (batch_of batch.now) (T.as_reader source).index) ≡ true }
-    ensures ends { IfOk result.1 (λ names. (slot : ℕ) (grant : Grant) → slice_get (batch_slots (batch_of batch.now)) slot ≡ Some grant
-        → list_any (λ name. name == rank grant) names.items ≡ serial_ends (batch_of batch.now) (T.as_reader source).index slot) }
+    ensures ends { IfOk result.1 (λ names. NamesEnded (batch_of batch.now) (T.as_reader source).index names.items) }
     ensures order { IfOk result.1 (λ names. IsStrictlyIncreasing names.items) }
     ensures same { (T.as_reader result.0 ≡ T.as_reader source) × (T.work result.0 ≡ T.work source) }
 {

@@ -1,15 +1,12 @@
 //! What the own words of every log's places give.
 
-ghost use Rattle.std.specs.Prelude.{◌≡◌, ◌<◌, ◌^◌, ℕ, All, List, Some, length, slice_get};
+ghost use Rattle.std.specs.Prelude.{◌≡◌, ℕ, List, Some, slice_get};
 ghost use Rattle.model_base.specs.declared.outcome.Outcome.{Outcome};
 ghost use Rattle.model_base.specs.declared.statement.Statement.{Statement};
 ghost use Rattle.model_base.specs.Outcomes.{outcome};
-ghost use Rattle.body.specs.Premises.{IsRunnable};
-ghost use Rattle.body.specs.Shape.{FormFits};
-ghost use Rattle.body.specs.Steps.{steps_of};
 ghost use Rattle.own_words.specs.Places.{words_at};
 ghost use Rattle.own_words.specs.Words.{FitsForm, ended_in, outcome_from};
-ghost use Rattle.evaluation.specs.Keeping.{KeepsToSteps};
+ghost use Rattle.evaluation.specs.Keeping.{ForOutcomes, KeepsToSteps};
 
 /// Each outcome of a log fits the form of its statement. It has no more outputs than there are OUT steps, and a step at which it ended is
 /// one of the statement's. And it is such that words give it, if the statements of the log fit the columns of their tables, the body of
@@ -18,18 +15,11 @@ pub fn outcomes_fit_their_forms()
     ensures steps { (log : List Statement) (place : ℕ) (statement : Statement) (found : Outcome)
         → slice_get log place ≡ Some statement → outcome log place ≡ Some found
         → KeepsToSteps statement.form found }
-    ensures words { (columns : ℕ → ℕ) (log : List Statement) (place : ℕ) (statement : Statement) (found : Outcome)
-        → slice_get log place ≡ Some statement → outcome log place ≡ Some found
-        → All (λ (one : Statement). FormFits columns one.form) log → IsRunnable statement
-        → length (steps_of statement.form) < 2 ^ 64 → place < 2 ^ 64
-        → FitsForm statement.form found }
+    ensures words { ForOutcomes (λ columns log place statement found. FitsForm statement.form found) }
 {}
 
 /// The own words of a place of such a log, decoded with the records that its revocation ended, are its outcome.
 pub fn words_tell_outcomes()
-    ensures { (columns : ℕ → ℕ) (log : List Statement) (place : ℕ) (statement : Statement) (found : Outcome)
-        → slice_get log place ≡ Some statement → outcome log place ≡ Some found
-        → All (λ (one : Statement). FormFits columns one.form) log → IsRunnable statement
-        → length (steps_of statement.form) < 2 ^ 64 → place < 2 ^ 64
-        → outcome_from statement.form (words_at columns log place) (ended_in found) ≡ found }
+    ensures { ForOutcomes (λ columns log place statement found.
+        outcome_from statement.form (words_at columns log place) (ended_in found) ≡ found) }
 {}

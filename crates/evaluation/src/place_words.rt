@@ -1,20 +1,12 @@
 //! The own words of a place.
 
-ghost use Rattle.std.specs.Prelude.{◌≡◌, ◌<◌, ◌≤◌, ◌+◌, ◌*◌, ◌++◌, ℕ, All, List, [], length};
-ghost use Rattle.model_base.specs.declared.deed.Deed.{Deed};
+ghost use Rattle.std.specs.Prelude.{◌≡◌, ◌<◌, ◌≤◌, ◌+◌, ◌*◌, ◌++◌, All, [], length};
 ghost use Rattle.model_base.specs.declared.statement.Access.{Access};
-ghost use Rattle.model_base.specs.Outcomes.{at_place, needs};
 ghost use Rattle.model_base.specs.Rows.{Rows};
-ghost use Rattle.model_base.specs.Versions.{accesses_of};
-ghost use Rattle.body.specs.Laws.{AreApart};
-ghost use Rattle.body.specs.Premises.{IsRunnable};
-ghost use Rattle.body.specs.Shape.{FormFits};
 ghost use Rattle.body.specs.Shown.{WindowShows};
-ghost use Rattle.checker.specs.Missing.{Covers};
-ghost use Rattle.grants_base.specs.View.{ShowsDeeds};
 ghost use Rattle.own_words.specs.Places.{own_words};
-ghost use Rattle.evaluation.specs.Answering.{IsShaped, columns_in};
-ghost use Rattle.evaluation.specs.Judged.{cells_at};
+ghost use Rattle.evaluation.specs.Answering.{IsInput, IsShaped, columns_in};
+ghost use Rattle.evaluation.specs.Judged.{ForShown, cells_at};
 
 use crate::judging::judged;
 use body::Window;
@@ -53,18 +45,9 @@ pub fn own_words<V: Records>(
     view: &mut V,
     words: &mut OwnWords,
 )
-    requires runnable { IsRunnable statement.now }
-    requires apart { AreApart (accesses_of statement.now.form) }
-    requires fits { FormFits (columns_in columns.now) statement.now.form }
-    requires narrow { All (λ count. count ≤ MOST_COLUMNS) columns.now }
-    requires tables { All (λ (access : Access). access.key.table < length columns.now) (accesses_of statement.now.form) }
-    requires shaped { IsShaped (columns_in columns.now) (accesses_of statement.now.form) window.old }
-    requires fresh { window.old.outputs ≡ [] }
-    requires covered { Covers (V.shown view.old) (needs statement.now.form) }
-    ensures value { (owners : List ℕ) (deeds : List Deed) (rows : Rows)
-        → ShowsDeeds (V.shown view.old) owners deeds → WindowShows (accesses_of statement.now.form) window.old rows
-        → words.new ≡ own_words (columns_in columns.now) statement.now.form
-        (at_place owners (V.shown view.old).place (record { rows = rows; deeds = deeds }) statement.now) }
+    requires { IsInput statement.now columns.now window.old (V.shown view.old) }
+    ensures value { ForShown statement.now window.old (V.shown view.old)
+        (λ found. words.new ≡ own_words (columns_in columns.now) statement.now.form found) }
     ensures same { V.shown view.new ≡ V.shown view.old }
 {
     let outcome = judged(statement, window, view);

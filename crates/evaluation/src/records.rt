@@ -6,7 +6,7 @@ ghost use Rattle.grants_base.specs.InForce.{ShowsNextInForce};
 ghost use Rattle.grants_base.specs.View.{end_in, grant_in, slot_at};
 ghost use Rattle.bohm_core_base.specs.Batch.{batch_slots};
 ghost use Rattle.log_batch.specs.Supplied.{batch_of};
-ghost use Rattle.evaluation.specs.Seen.{seen_at, seen_view};
+ghost use Rattle.evaluation.specs.Seen.{shown_to};
 ghost use Rattle.evaluation.specs.Sought.{is_sought};
 ghost use Rattle.evaluation.specs.ReadSource.{Reader, PassWork};
 
@@ -52,14 +52,10 @@ fn end_below(end: Option<Place>, place: Place) -> Option<Place>
 
 /// The grant of a slot, if the reader is shown it: it is on one of its tables, lies below it, and was made, before the batch
 /// or by a place that was done.
-pub(crate) fn grant_shown<T: ReadSource>(
-    batch: &LogBatch,
-    source: &mut T,
-    slot: usize,
-) -> Option<Grant>
+fn grant_shown<T: ReadSource>(batch: &LogBatch, source: &mut T, slot: usize) -> Option<Grant>
     requires batch { (T.as_reader source.old).batch ≡ batch_of batch.now }
     requires within { slot < length (batch_slots (batch_of batch.now)) }
-    ensures value { result ≡ grant_in (slot_at (seen_view (seen_at batch.now (T.as_reader source.old).index)) slot) }
+    ensures value { result ≡ grant_in (slot_at (shown_to batch.now (T.as_reader source.old)) slot) }
     ensures same { (T.as_reader source.new ≡ T.as_reader source.old) × (T.work source.new ≡ T.work source.old) }
 {
     let index = source.reader();
@@ -76,7 +72,7 @@ pub(crate) fn grant_shown<T: ReadSource>(
 }
 
 /// The end of the record of a slot whose grant the reader is shown, if it is, and if the end lies below the reader.
-pub(crate) fn end_of_shown<T: ReadSource>(
+fn end_of_shown<T: ReadSource>(
     batch: &LogBatch,
     source: &mut T,
     slot: usize,
@@ -84,8 +80,8 @@ pub(crate) fn end_of_shown<T: ReadSource>(
 ) -> Option<Place>
     requires batch { (T.as_reader source.old).batch ≡ batch_of batch.now }
     requires within { slot < length (batch_slots (batch_of batch.now)) }
-    requires shown { grant.now ≡ grant_in (slot_at (seen_view (seen_at batch.now (T.as_reader source.old).index)) slot) }
-    ensures value { result ≡ end_in (slot_at (seen_view (seen_at batch.now (T.as_reader source.old).index)) slot) }
+    requires shown { grant.now ≡ grant_in (slot_at (shown_to batch.now (T.as_reader source.old)) slot) }
+    ensures value { result ≡ end_in (slot_at (shown_to batch.now (T.as_reader source.old)) slot) }
     ensures same { (T.as_reader source.new ≡ T.as_reader source.old) × (T.work source.new ≡ T.work source.old) }
 {
     let _log = batch.log();
@@ -99,15 +95,21 @@ pub(crate) fn end_of_shown<T: ReadSource>(
     }
 }
 
-/// The end of the record of a slot, if the reader is shown its grant and it lies below the reader.
-fn end_shown<T: ReadSource>(batch: &LogBatch, source: &mut T, slot: usize) -> Option<Place>
+/// The grant of a slot, if the reader is shown it, and its end, if it lies below the reader.
+pub(crate) fn record_shown<T: ReadSource>(
+    batch: &LogBatch,
+    source: &mut T,
+    slot: usize,
+) -> (Option<Grant>, Option<Place>)
     requires batch { (T.as_reader source.old).batch ≡ batch_of batch.now }
     requires within { slot < length (batch_slots (batch_of batch.now)) }
-    ensures value { result ≡ end_in (slot_at (seen_view (seen_at batch.now (T.as_reader source.old).index)) slot) }
+    ensures grant { result.0 ≡ grant_in (slot_at (shown_to batch.now (T.as_reader source.old)) slot) }
+    ensures end { result.1 ≡ end_in (slot_at (shown_to batch.now (T.as_reader source.old)) slot) }
     ensures same { (T.as_reader source.new ≡ T.as_reader source.old) × (T.work source.new ≡ T.work source.old) }
 {
     let grant = grant_shown(batch, source, slot);
-    end_of_shown(batch, source, slot, &grant)
+    let end = end_of_shown(batch, source, slot, &grant);
+    (grant, end)
 }
 
 /// The least slot at or above this one of a grant that the reader is shown in force and that is looked for, and the last end of
@@ -120,7 +122,7 @@ fn shown_next<T: ReadSource>(
 ) -> Option<NextInForce>
     requires batch { (T.as_reader source.old).batch ≡ batch_of batch.now }
     ensures next { IfSome result (λ next.
-        ShowsNextInForce (is_sought sought.now) (seen_view (seen_at batch.now (T.as_reader source.old).index)) from next) }
+        ShowsNextInForce (is_sought sought.now) (shown_to batch.now (T.as_reader source.old)) from next) }
     ensures same { (T.as_reader source.new ≡ T.as_reader source.old) × (T.work source.new ≡ T.work source.old) }
 {
     let statement = batch.statement(source.reader());
@@ -145,9 +147,9 @@ fn shown_next<T: ReadSource>(
 impl<T: ReadSource, P: Pinned> Records for ShownRecords<'_, T, P> {
     ghost use Rattle.bohm_core_base.specs.Batch.{batch_slots};
     ghost use Rattle.log_batch.specs.Supplied.{batch_of};
-    ghost use Rattle.evaluation.specs.Seen.{seen_at, seen_view};
+    ghost use Rattle.evaluation.specs.Seen.{shown_to};
 
-    ghost shown = { λ records. seen_view (seen_at records.batch.now (T.as_reader records.source).index) };
+    ghost shown = { λ records. shown_to records.batch.now (T.as_reader records.source) };
 
     ghost asked = { λ records. batch_slots (batch_of records.batch.now) };
 
@@ -175,7 +177,8 @@ impl<T: ReadSource, P: Pinned> Records for ShownRecords<'_, T, P> {
 
     fn end(&mut self, i: usize) -> Option<Place> {
         let _log = self.batch.log();
-        end_shown(self.batch, &mut self.source, i)
+        let (_, end) = record_shown(self.batch, &mut self.source, i);
+        end
     }
 
     fn next_to(

@@ -10,7 +10,7 @@ ghost use Rattle.bohm_core_base.specs.Batch.{cell, row_from, words_length};
 ghost use Rattle.bohm_core_base.specs.Serial.{serial_words};
 ghost use Rattle.log_batch.specs.Shown.{row_numbers};
 ghost use Rattle.log_batch.specs.Supplied.{batch_of};
-ghost use Rattle.evaluation.specs.ReadSource.{IsReferred, referred_word, row_referred};
+ghost use Rattle.evaluation.specs.ReadSource.{IsReferred, place_in_log, referred_word, row_referred};
 
 use crate::read_source::ReadSource;
 use body::Window;
@@ -109,9 +109,9 @@ pub(crate) fn show_rows<T: ReadSource>(batch: &LogBatch, source: &mut T, window:
     requires whole { length window.old.rows ≡ MOST_ACCESSES }
     requires fresh { window.old.outputs ≡ [] }
     ensures shows { (statement : Statement)
-        → slice_get batch.now.log.statements (batch.now.first + (T.as_reader source.old).index) ≡ Some statement
+        → slice_get batch.now.log.statements (place_in_log batch.now (T.as_reader source.old)) ≡ Some statement
         → WindowShows (accesses_of statement.form) window.new
-        (rows_before batch.now.log.statements (batch.now.first + (T.as_reader source.old).index)) }
+        (rows_before batch.now.log.statements (place_in_log batch.now (T.as_reader source.old))) }
     ensures fresh { window.new.outputs ≡ [] }
     ensures same { (T.as_reader source.new ≡ T.as_reader source.old) × (T.work source.new ≡ T.work source.old) }
 {

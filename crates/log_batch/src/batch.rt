@@ -79,7 +79,7 @@ fn push_grant(grants: &mut IndexedGrants, deed: Deed) -> Result<(), AllocError>
 }
 
 /// Appends the grants among the deeds that are left.
-fn push_grants(grants: &mut IndexedGrants, deeds: &mut Deeds) -> Result<(), AllocError>
+fn push_grants(grants: &mut IndexedGrants, deeds: &mut Deeds<'_>) -> Result<(), AllocError>
     ensures { OnOk result (grants.new ≡ grants.old ++ grants_of deeds.old) }
 {
     'deeds: while let Some(deed) = deeds.next() {
@@ -109,7 +109,7 @@ fn named_grants(
 
 impl<'a> LogBatch<'a> {
     ghost use Rattle.log_batch.specs.Referred.{AreAtHand, is_found};
-    ghost use Rattle.log_batch.specs.Supplied.{batch_of, range_of};
+    ghost use Rattle.log_batch.specs.Supplied.{batch_of, log_range, range_of};
 
     // The places of the range as a batch, with what is available of their references.
     fn of(
@@ -127,13 +127,7 @@ impl<'a> LogBatch<'a> {
         requires within { range.end ≤ length log.now.log.statements }
         requires before { IsStateBefore log.now.log.statements range.start before }
         requires references { AreAtHand log.now.log.statements range.start (range.end - range.start) references }
-        ensures { IfOk result (λ batch. batch ≡ record {
-          log = log.now.log;
-          first = range.start;
-          size = range.end - range.start;
-          partitions = partitions;
-          placed = is_found references;
-        }) }
+        ensures { IfOk result (λ batch. batch ≡ log_range log.now.log range.start range.end partitions (is_found references)) }
     {
         let _dropped = log.dropped();
         let _len = log.len();
@@ -152,8 +146,8 @@ impl<'a> LogBatch<'a> {
     }
 
     /// The places of the range as a batch, placed by this many partitions, 1 to `MOST_PARTITIONS`. The versions of rows end where the range
-    /// begins and are those of the log, the book has the deeds before the range, and the references are `merge`'s for it. An error means out
-    /// of memory.
+    /// begins and are those of the log, the book has the deeds before the range, and the references are `merge`'s for it. An error means
+    /// out of memory.
     pub fn new(
         alloc: Global,
         log: &'a LogTail,
@@ -169,13 +163,7 @@ impl<'a> LogBatch<'a> {
         requires within { range.end ≤ length log.now.log.statements }
         requires before { IsStateBefore log.now.log.statements range.start before }
         requires references { references ≡ batch_references log.now.log.statements range.start range.end }
-        ensures { IfOk result (λ batch. batch ≡ record {
-          log = log.now.log;
-          first = range.start;
-          size = range.end - range.start;
-          partitions = partitions;
-          placed = true;
-        }) }
+        ensures { IfOk result (λ batch. batch ≡ log_range log.now.log range.start range.end partitions true) }
     {
         let found = References::Found(references);
         Self::of(alloc, log, before, range, partitions, found)
@@ -197,13 +185,7 @@ impl<'a> LogBatch<'a> {
         requires order { range.start ≤ range.end }
         requires within { range.end ≤ length log.now.log.statements }
         requires before { IsStateBefore log.now.log.statements range.start before }
-        ensures { IfOk result (λ batch. batch ≡ record {
-          log = log.now.log;
-          first = range.start;
-          size = range.end - range.start;
-          partitions = partitions;
-          placed = false;
-        }) }
+        ensures { IfOk result (λ batch. batch ≡ log_range log.now.log range.start range.end partitions false) }
     {
         let counts = reference_counts(alloc, log, range.start..range.end)?;
         let counted = References::Counted(counts);
@@ -307,8 +289,8 @@ impl<'a> LogBatch<'a> {
         }
     }
 
-    /// How many slots there are: one for each grant that was made before the batch, and then for each that it may make, of each kind to each
-    /// grantee of a statement.
+    /// How many slots there are: one for each grant that was made before the batch, and then for each that it may make, of each kind to
+    /// each grantee of a statement.
     pub fn slot_count(&self) -> usize
         ensures value { result ≡ length (batch_slots (batch_of self.now)) }
         ensures of_log { IsOfLog (range_of self.now) }

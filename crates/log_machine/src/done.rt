@@ -2,17 +2,15 @@
 
 ghost use Rattle.std.specs.Prelude.{◌≡◌, ◌≢◌, ◌+◌, ◌++◌, ◌∷◌, [], IfOk, IfSome, IsTrue, OnErr, OnOk, Some, if◌then◌else◌};
 ghost use Rattle.std.specs.Option.{MatchOption};
-ghost use Rattle.model_base.specs.Outcomes.{outcome};
 ghost use Rattle.model_base.specs.Ranks.{rank};
 ghost use Rattle.model_base.specs.declared.outcome.Outcome.{Outcome};
-ghost use Rattle.own_words.specs.Places.{words_at};
 ghost use Rattle.own_words.specs.Words.{ended_in};
-ghost use Rattle.sequencer.specs.Whole.{columns_by};
 ghost use Rattle.bohm_core_base.specs.Batch.{batch_slots};
 ghost use Rattle.bohm_core_base.specs.Machine.{hold_of};
 ghost use Rattle.bohm_core_base.specs.declared.hold.Hold.TheVariants.{Done};
-ghost use Rattle.log_batch.specs.Laws.{ended_ranks};
-ghost use Rattle.log_batch.specs.Supplied.{batch_of};
+ghost use Rattle.log_batch.specs.Laws.{EndsRecords, ended_ranks};
+ghost use Rattle.log_batch.specs.LogBatch.{outcome_at, own_words_at};
+ghost use Rattle.log_batch.specs.Supplied.{batch_of, range_of};
 
 use crate::of_log::OfLog;
 use bohm_core::{Hold, Machine, State};
@@ -24,8 +22,7 @@ use std::alloc::{AllocError, Global};
 /// The own words of a place that is done, whatever the events were: those of its outcome in the log, and its version cells.
 pub fn done_words<'a>(machine: &'a Machine<OfLog<'_>>, index: usize) -> Option<&'a [u64]>
     ensures { MatchOption result (hold_of machine.now.state index ≢ Done) (λ words.
-        words.now ≡ words_at (columns_by machine.now.statements.log.names) machine.now.statements.log.statements
-        (machine.now.statements.first + index)) }
+        words.now ≡ own_words_at (range_of machine.now.statements) index) }
 {
     let _log = machine.statements().batch().log();
     let state = machine.state();
@@ -75,11 +72,9 @@ pub fn done_ends(
     index: usize,
 ) -> Result<Option<Vec<RecordName>>, AllocError>
     ensures told { IfOk result (λ told. MatchOption told (hold_of machine.now.state index ≢ Done) (λ names. (found : Outcome)
-        → outcome machine.now.statements.log.statements (machine.now.statements.first + index) ≡ Some found
-        → names.items ≡ ended_in found)) }
+        → outcome_at (range_of machine.now.statements) index ≡ Some found → names.items ≡ ended_in found)) }
     ensures done { IfOk result (λ told. IfSome told (λ _. hold_of machine.now.state index ≡ Done)) }
-    ensures memory { OnErr result ((found : Outcome)
-        × (outcome machine.now.statements.log.statements (machine.now.statements.first + index) ≡ Some found) × (ended_in found ≢ [])) }
+    ensures memory { OnErr result (EndsRecords (range_of machine.now.statements) index) }
 {
     let state = machine.state();
     let batch = machine.statements().batch();
@@ -102,10 +97,8 @@ pub fn done_outcome(
     index: usize,
 ) -> Result<Option<Outcome>, AllocError>
     ensures told { IfOk result (λ told. MatchOption told (hold_of machine.now.state index ≢ Done) (λ found.
-        (hold_of machine.now.state index ≡ Done)
-        × (outcome machine.now.statements.log.statements (machine.now.statements.first + index) ≡ Some found))) }
-    ensures memory { OnErr result ((found : Outcome)
-        × (outcome machine.now.statements.log.statements (machine.now.statements.first + index) ≡ Some found) × (ended_in found ≢ [])) }
+        (hold_of machine.now.state index ≡ Done) × (outcome_at (range_of machine.now.statements) index ≡ Some found))) }
+    ensures memory { OnErr result (EndsRecords (range_of machine.now.statements) index) }
 {
     let state = machine.state();
     let batch = machine.statements().batch();

@@ -19,7 +19,7 @@ cells columns form rows =
     flat_map (λ (access : Access). row_words (columns access.key.table) (rows access.key.table access.key.row))
     (filter is_writing (accesses_of form))
 
--- the own words of a place with this outcome, after which this stands
+-- the own words of a place with this outcome, after which this is
 abbrev pub own_words : (ℕ → ℕ) → Form → Outcome × World → List ℕ
 own_words columns form result = header form result.0 ++ cells columns form result.1.rows
 

@@ -69,8 +69,8 @@ pub fn row_of(columns: u8, words: &[u64]) -> Option<Row>
 }
 
 /// What the deeds of a place result in, by the first of them and the records that its revocation ended.
-fn deeds_told(ended: Items<RecordName>, mut deeds: Deeds) -> DeedDone
-    ensures { result ≡ deeds_told ended deeds }
+fn deeds_told(ended: Items<RecordName>, mut deeds: Deeds<'_>) -> DeedDone
+    ensures { result ≡ deeds_told ended deeds.entry }
 {
     match deeds.next() {
         None => DeedDone::None,

@@ -1,4 +1,4 @@
--- The references of a batch, put together from what the partitions found.
+-- The references of a batch, gathered from what the partitions found.
 use Rattle.std.specs.Prelude.{ℕ, zero, suc, List, [], ◌∷◌, fold, slice_index_or, slice_range, slice_set}
 use Rattle.model_base.specs.declared.reference.Reference.{Reference}
 use Rattle.model_base.specs.declared.reference.Reference.TheVariants.{At}

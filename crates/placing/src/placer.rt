@@ -40,7 +40,7 @@ fn pass_tables(latest: &Latest, part: &mut Part, tables: &[Table]) -> Result<(),
 
 /// Goes through the statement of the next place: finds what of the partition it is referred to, and then notes it as what
 /// later places may be referred to. `tables` is cleared first, and serves as room for the statement's tables. On `Err`
-/// memory was refused, and what was found is of no further use.
+/// memory ran out, and what was found is of no further use.
 fn place_statement(
     latest: &mut Latest,
     part: &mut Part,
@@ -67,7 +67,7 @@ fn place_statement(
 /// What one partition's placer finds in the batch of these places: for each of them, in the order of the log, which earlier
 /// place of the batch last may change each row of the partition that it accesses, and which last has a deed on each table
 /// of the partition that is a table of its needs or of its deed. A place counts by what it declares, whatever will become
-/// of it. The cost of a place is that of a look-up for each of its accesses and tables. `Err` says that memory was refused.
+/// of it. The cost of a place is that of a look-up for each of its accesses and tables. `Err` says that memory ran out.
 pub fn place(
     alloc: Global,
     log: &LogTail,

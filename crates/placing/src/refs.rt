@@ -112,7 +112,7 @@ fn first_ends(alloc: Global, mut parts: Vec<Part>) -> Vec<usize>
 }
 
 /// Writes together what the placers of all partitions found, in the order of the partitions: the references of the batch, the same for
-/// every number of partitions. The cost is a step for each place and each reference. `Err` says that memory was refused.
+/// every number of partitions. The cost is a step for each place and each reference. `Err` says that memory ran out.
 pub fn merge(alloc: Global, parts: Vec<Part>) -> Result<Refs, AllocError>
     ensures { IfOk result (λ refs. (partitions : ℕ) (log : List Statement) (first places : ℕ)
         → ArePartsOf parts.items partitions log first places → refs ≡ batch_references log first (first + places)) }

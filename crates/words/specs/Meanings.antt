@@ -1,4 +1,4 @@
--- What each step tells its pass.
+-- What each step means for its pass.
 use Rattle.std.specs.Prelude.{◌≡◌, ◌⊎◌, ◌<◌, ◌≤◌, ◌+◌, ℕ, false, true, Option, None, Some, length, List, []}
 use Rattle.model_base.specs.Records.{end_below}
 use Rattle.bohm_core_base.specs.declared.event.Event.TheVariants.{Claim}
@@ -18,7 +18,7 @@ FoundHeld index view after =
     ((after ≡ view) × ((count : ℕ) × (ended : List ℕ) × Holds view index count ended))
     ⊎ ((after ≡ with_sighting view index) × (view.sole ≡ false))
 
--- what a claim tells the pass with a number: a won one is its event, and the place is held with nothing stored
+-- what a claim means for the pass with a number: a won one is its event, and the place is held with nothing stored
 abbrev pub ClaimMeans : ℕ → ℕ → Knowledge → Claimed → Knowledge → Type 0
 ClaimMeans number index view Won after = (after ≡ with_event view (Claim number index)) × Holds after index 0 []
 ClaimMeans number index view Held after = FoundHeld index view after

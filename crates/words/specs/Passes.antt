@@ -97,12 +97,16 @@ pub record IsLaid
 abbrev pub counted : PassState → PassState
 counted pass = record pass { bodies = min (suc pass.bodies) (2 ^ 64 - 1) }
 
--- the first pass of a batch of which all is placed, and of one of which nothing is placed yet
+-- the first pass of a batch, by whether all of it is placed
+abbrev pub begun_pass : {K : Type 0} → Words K → Bool → PassState
+begun_pass words placed = record { table = words.table; number = 0; view = first_view placed; bodies = 0 }
+
+-- of one of which all is placed, and of one of which nothing is placed yet
 abbrev pub first_pass : {K : Type 0} → Words K → PassState
-first_pass words = record { table = words.table; number = 0; view = first_view true; bodies = 0 }
+first_pass words = begun_pass words true
 
 abbrev pub open_pass : {K : Type 0} → Words K → PassState
-open_pass words = record { table = words.table; number = 0; view = first_view false; bodies = 0 }
+open_pass words = begun_pass words false
 
 -- the placer of a partition that was cut from a pass, whose number is a new one
 abbrev pub cut_placer : PassState → ℕ → ℕ → PlacerState

@@ -78,7 +78,7 @@ impl<K: BatchData> BatchWords<K> {
 
     /// A listed end, if it is set: the place that ends the record by the serial run. One load. It is set where the pass knows the ending
     /// place done; and for a place of which the pass knows all references done, and on one of whose tables the grant is, the end that is
-    /// read tells below the place what the serial run's does.
+    /// read shows below the place what the serial run's does.
     pub fn end(&self, pass: &mut Holding, end: usize) -> Option<Place>
         requires same_table { IsPassOf self.now pass.old }
         requires listed { end < length (K.listed self.now.key) }

@@ -1,8 +1,6 @@
 //! What follows of the rule, for who chains steps.
 
 ghost use Rattle.std.specs.Prelude.{◌≡◌, ◌++◌, ◌∷◌, ◌<◌, ◌≤◌, [], ℕ, suc, List, Some, false, true, length, if◌then◌else◌};
-ghost use mathlib.Core.Option.{some};
-ghost use lib.ListN.{get_elem?};
 ghost use Rattle.bohm_core_base.specs.declared.event.Event.{Event};
 ghost use Rattle.bohm_core_base.specs.declared.event.Event.TheVariants.{Claim, End, Fill, Finish, GiveBack};
 ghost use Rattle.bohm_core_base.specs.declared.hold.Hold.TheVariants.{Done, Held};
@@ -10,7 +8,7 @@ ghost use Rattle.bohm_core_base.specs.Batch.{Batch, IsSoundBatch};
 ghost use Rattle.bohm_core_base.specs.Laws.{actor_of};
 ghost use Rattle.bohm_core_base.specs.Machine.{front_of, hold_of, is_done, own_of, reach, start};
 ghost use Rattle.words.specs.declared.knowledge.Knowledge.{Knowledge};
-ghost use Rattle.words.specs.Legal.{IsEffective, Lawful, events_by, finishes_of, is_event_of};
+ghost use Rattle.words.specs.Legal.{IsEffective, OfEachView, events_by, finishes_of, is_event_of};
 ghost use Rattle.words.specs.Views.{Holds, In, IsSettled, KeepsFronts, KnowsFront, KnowsPast, KnowsReferences, front_in, is_event_at, joined, split_left, split_right, with_all_placed, with_event, with_front, with_known};
 
 /// A pass that claims a place holds it with nothing stored; each word that it stores counts as one more, and each end that it sets is
@@ -80,27 +78,17 @@ pub fn passes_keep_the_fronts_that_they_know()
 /// done is done; so is a place with a deed on a table of a later place of which it knows all references done; and a partition has
 /// placed each place that the pass knows it past, and so has every one if the pass knows that all is placed.
 pub fn views_tell_the_state()
-    ensures held { (batch : Batch) (listed words : List ℕ) (views : List Knowledge) (events : List Event)
-        (number index count : ℕ) (view : Knowledge) (ended : List ℕ)
-        → Lawful batch listed words views events → get_elem? views number ≡ some view → view.spent ≡ false → Holds view index count ended
-        → (hold_of (reach batch events) index ≡ Held number) × (length (own_of (reach batch events) index) ≡ count) }
-    ensures known { (batch : Batch) (listed words : List ℕ) (views : List Knowledge) (events : List Event) (number index : ℕ)
-        (view : Knowledge)
-        → Lawful batch listed words views events → get_elem? views number ≡ some view → In index view.known
-        → hold_of (reach batch events) index ≡ Done }
-    ensures settled { (batch : Batch) (listed words : List ℕ) (views : List Knowledge) (events : List Event) (number index : ℕ)
-        (view : Knowledge)
-        → Lawful batch listed words views events → get_elem? views number ≡ some view → view.spent ≡ false → IsSettled batch view index
-        → hold_of (reach batch events) index ≡ Done }
-    ensures past { (batch : Batch) (listed words : List ℕ) (views : List Knowledge) (events : List Event)
-        (number partition index : ℕ) (view : Knowledge)
-        → Lawful batch listed words views events → get_elem? views number ≡ some view → view.spent ≡ false
-        → partition < batch.partitions → index < batch.size → KnowsFront view partition index
-        → index < front_of (reach batch events) partition }
-    ensures placed_by { (batch : Batch) (listed words : List ℕ) (views : List Knowledge) (events : List Event) (number : ℕ)
-        (view : Knowledge)
-        → Lawful batch listed words views events → get_elem? views number ≡ some view → view.placer ≡ true
-        → front_of (reach batch events) view.partition ≡ front_in view }
+    ensures held { OfEachView (λ batch state number view. (index count : ℕ) (ended : List ℕ)
+        → view.spent ≡ false → Holds view index count ended
+        → (hold_of state index ≡ Held number) × (length (own_of state index) ≡ count)) }
+    ensures known { OfEachView (λ batch state number view. (index : ℕ) → In index view.known → hold_of state index ≡ Done) }
+    ensures settled { OfEachView (λ batch state number view. (index : ℕ)
+        → view.spent ≡ false → IsSettled batch view index → hold_of state index ≡ Done) }
+    ensures past { OfEachView (λ batch state number view. (partition index : ℕ)
+        → view.spent ≡ false → partition < batch.partitions → index < batch.size → KnowsFront view partition index
+        → index < front_of state partition) }
+    ensures placed_by { OfEachView (λ batch state number view.
+        view.placer ≡ true → front_of state view.partition ≡ front_in view) }
 {}
 
 /// In a list of events each of which may happen where it happens, a place is finished once if it is done, and else never.

@@ -5,7 +5,7 @@ ghost use Rattle.bohm_core_base.specs.Batch.{reference_words, words_length};
 ghost use Rattle.atomic_table.specs.Table.{Allows, Splits, step};
 ghost use mathlib.Core.Option.{none};
 ghost use prog.Atomic.{either};
-ghost use Rattle.words.specs.Legal.{legal};
+ghost use Rattle.words.specs.Legal.{table_rule};
 ghost use Rattle.words.specs.Layout.{claim_word, end_word, front_word, own_word, position, reference_word};
 ghost use Rattle.words.specs.Views.{joined, split_left, split_right};
 
@@ -16,7 +16,7 @@ use crate::table::{BatchWords, Rule};
 use atomic_table::{Play, Seat, Shared, Split};
 use std::marker::Brand;
 
-// What a step tells is a type M that the caller's proof picks, by the place and the number that are passed for it alone.
+// What a step means is a type M that the caller's proof picks, by the place and the number that are passed for it alone.
 impl<K: BatchData> BatchWords<K> {
     // What threads share of the table, which has a word.
     pub(crate) fn shared(&self) -> &Shared<u8, Knowledge, K, Rule>
@@ -52,8 +52,7 @@ impl<K: BatchData> BatchWords<K> {
         _partition: usize,
     ) -> Seat<u8, Knowledge>
         requires same_table { seat.old.table_id ≡ self.now.table }
-        requires splits { Splits {S = ℕ}
-            (λ state. legal (K.batch self.now.key) (K.listed self.now.key) state.words state.views)
+        requires splits { Splits (table_rule (K.batch self.now.key) (K.listed self.now.key))
             seat.old.id seat.old.me.0 (M.left seat.old.me.0) (M.right seat.old.me.0) }
         ensures same { (seat.new.table_id ≡ seat.old.table_id) × (seat.new.id ≡ seat.old.id) × (result.table_id ≡ seat.old.table_id) }
         ensures first { seat.new.me ≡ (M.left seat.old.me.0, seat.old.me.1) }
@@ -88,8 +87,7 @@ impl<K: BatchData> BatchWords<K> {
     ) -> u64
         requires same_table { seat.old.table_id ≡ self.now.table }
         requires within { at < self.now.table.words }
-        requires allows { Allows
-            (λ state. legal (K.batch self.now.key) (K.listed self.now.key) state.words state.views)
+        requires allows { Allows (table_rule (K.batch self.now.key) (K.listed self.now.key))
             self.now.table.slots seat.old.id seat.old.me at
             (λ found. either (found == 0) 1 found)
             (M.then (step self.now.table.slots at 0 1 none) seat.old.me) }
@@ -110,8 +108,7 @@ impl<K: BatchData> BatchWords<K> {
     )
         requires same_table { seat.old.table_id ≡ self.now.table }
         requires within { at < self.now.table.words }
-        requires allows { Allows
-            (λ state. legal (K.batch self.now.key) (K.listed self.now.key) state.words state.views)
+        requires allows { Allows (table_rule (K.batch self.now.key) (K.listed self.now.key))
             self.now.table.slots seat.old.id seat.old.me at
             (λ _. word) (λ _. M.then (step self.now.table.slots at word 0 none) seat.old.me word) }
         ensures same { (seat.new.table_id ≡ seat.old.table_id) × (seat.new.id ≡ seat.old.id) }
@@ -130,8 +127,7 @@ impl<K: BatchData> BatchWords<K> {
     ) -> u64
         requires same_table { seat.old.table_id ≡ self.now.table }
         requires within { at < self.now.table.words }
-        requires allows { Allows
-            (λ state. legal (K.batch self.now.key) (K.listed self.now.key) state.words state.views)
+        requires allows { Allows (table_rule (K.batch self.now.key) (K.listed self.now.key))
             self.now.table.slots seat.old.id seat.old.me at
             (λ found. found)
             (M.then (step self.now.table.slots at 0 0 none) seat.old.me) }

@@ -12,10 +12,10 @@ use std::marker::{Brand, Model};
 pub struct Rule;
 
 impl<K: BatchData> TableRule<u8, Knowledge, K> for Rule {
-    ghost use Rattle.words.specs.Legal.{legal};
+    ghost use Rattle.words.specs.Legal.{table_rule};
     ghost use Rattle.words.specs.Views.{first_view};
 
-    ghost holds = { λ key state. legal (K.batch key) (K.listed key) state.words state.views };
+    ghost holds = { λ key state. table_rule (K.batch key) (K.listed key) state };
 
     ghost first = { λ key. first_view (K.placed key) };
 }

@@ -1,17 +1,17 @@
 //! How the words of a batch and its passes are made, cut and joined.
 
-ghost use Rattle.std.specs.Prelude.{◌≡◌, ◌≤◌, ◌+◌, ◌*◌, ◌/◌, ◌^◌, [], false, true, replicate, IfOk};
+ghost use Rattle.std.specs.Prelude.{◌≡◌, ◌≤◌, ◌+◌, ◌*◌, ◌/◌, ◌^◌, ◌∷◌, [], false, true, length, replicate, IfOk};
 ghost use Rattle.bohm_core_base.specs.Batch.{IsSoundBatch};
 ghost use Rattle.words.specs.Layout.{block_begin, end_begin, front_begin, total};
-ghost use Rattle.words.specs.Passes.{AreBlocks, AreReferences, IsPassOf, cut_first, cut_second, first_pass, joined_pass, open_pass};
+ghost use Rattle.words.specs.Legal.{legal};
+ghost use Rattle.words.specs.Passes.{AreBlocks, AreReferences, IsPassOf, begun_pass, cut_first, cut_second, first_pass, joined_pass, open_pass};
 ghost use Rattle.words.specs.Views.{first_view};
 ghost use Rattle.words.specs.Written.{IsWritten};
 
 use crate::batch_data::{BatchData, MOST_WORDS_OF_A_PLACE};
-use crate::knowledge::Knowledge;
-use crate::table::{BatchWords, Pass, Rule};
+use crate::table::{BatchWords, Pass};
 use crate::written::{write_all_references, write_fronts};
-use atomic_table::{Seat, Table};
+use atomic_table::Table;
 use std::alloc::{AllocError, Global};
 
 /// How many words the block of a place with this many own words has: its claim, these, and as many more as make whole groups of eight. A
@@ -79,27 +79,6 @@ fn all_zero(alloc: Global, count: usize) -> Result<Vec<u64>, AllocError>
     Vec::from_elem(alloc, 0u64, count)
 }
 
-/// The table of the words, all 0, and its first seat. The ends begin after all else.
-fn table_of<K: BatchData>(
-    alloc: Global,
-    key: &K,
-    ends: usize,
-) -> Result<(Table<u8, Knowledge, K, Rule, Global>, Seat<u8, Knowledge>), AllocError>
-    requires sound { IsSoundBatch (K.batch key.now) }
-    requires open { K.placed key.now ≡ false }
-    requires end { ends ≡ end_begin (K.batch key.now) }
-    requires few { ends ≤ 2 ^ 42 }
-    ensures table { IfOk result (λ made.
-        (made.0.shared.table_id.words ≡ total (K.batch key.now) (K.listed key.now)) × (made.0.shared.table_id.slots ≡ 0)
-        × (made.0.shared.key ≡ key.now)) }
-    ensures seat { IfOk result (λ made.
-        (made.1.table_id ≡ made.0.shared.table_id) × (made.1.id ≡ 0) × (made.1.me ≡ (first_view false, []))) }
-{
-    let count = ends + key.ends();
-    let row = all_zero(alloc, count)?;
-    Table::of_words(alloc, row.as_slice(), key)
-}
-
 /// The words of a batch of which all is placed: the references of all places and all fronts are stored, and the others are 0.
 fn placed_row<K: BatchData>(
     alloc: Global,
@@ -120,28 +99,62 @@ fn placed_row<K: BatchData>(
     Ok(row)
 }
 
-/// The table of such words, and its first seat. The ends begin after all else.
-fn placed_table<K: BatchData>(
+/// The row with which a batch begins: such a row if all is placed, and else all 0. The ends begin after all else.
+fn first_row<K: BatchData>(
     alloc: Global,
     key: &K,
+    placed: bool,
     references: &[usize],
     fronts: usize,
     ends: usize,
-) -> Result<(Table<u8, Knowledge, K, Rule, Global>, Seat<u8, Knowledge>), AllocError>
+) -> Result<Vec<u64>, AllocError>
     requires sound { IsSoundBatch (K.batch key.now) }
-    requires placed { K.placed key.now ≡ true }
+    requires placed { K.placed key.now ≡ placed }
     requires begins { AreReferences (K.batch key.now) references.now fronts }
     requires end { ends ≡ end_begin (K.batch key.now) }
     requires few { ends ≤ 2 ^ 42 }
-    ensures table { IfOk result (λ made.
-        (made.0.shared.table_id.words ≡ total (K.batch key.now) (K.listed key.now)) × (made.0.shared.table_id.slots ≡ 0)
-        × (made.0.shared.key ≡ key.now)) }
-    ensures seat { IfOk result (λ made.
-        (made.1.table_id ≡ made.0.shared.table_id) × (made.1.id ≡ 0) × (made.1.me ≡ (first_view true, []))) }
+    ensures length { IfOk result (λ row. length row.items ≡ total (K.batch key.now) (K.listed key.now)) }
+    ensures legal { IfOk result (λ row. legal (K.batch key.now) (K.listed key.now) row.items (first_view placed ∷ [])) }
 {
     let count = ends + key.ends();
-    let row = placed_row(alloc, key, references, fronts, count)?;
-    Table::of_words(alloc, row.as_slice(), key)
+    if placed {
+        placed_row(alloc, key, references, fronts, count)
+    } else {
+        all_zero(alloc, count)
+    }
+}
+
+/// The words of a batch by whether all is placed, and its first pass.
+fn begun<K: BatchData>(
+    alloc: Global,
+    key: &K,
+    placed: bool,
+) -> Result<(BatchWords<K>, Pass), AllocError>
+    requires { K.placed key.now ≡ placed }
+    ensures { IfOk result (λ made. (made.0.key ≡ key.now) × (made.1 ≡ begun_pass made.0 placed)) }
+{
+    let places = key.places();
+    let (begins, end) = blocks(alloc, key)?;
+    let (references, fronts) = references(alloc, key, end)?;
+    let ends = fronts_end(key, fronts);
+    let row = first_row(alloc, key, placed, references.as_slice(), fronts, ends)?;
+    let (table, seat) = Table::of_words(alloc, row.as_slice(), key)?;
+    let count = table.word_count();
+    let words = BatchWords {
+        table,
+        places,
+        begins,
+        references,
+        fronts,
+        ends,
+        count,
+    };
+    let pass = Pass {
+        seat,
+        bodies: 0,
+        placed,
+    };
+    Ok((words, pass))
 }
 
 impl<K: BatchData> BatchWords<K> {
@@ -151,29 +164,7 @@ impl<K: BatchData> BatchWords<K> {
         requires { K.placed key.now ≡ true }
         ensures { IfOk result (λ made. (made.0.key ≡ key.now) × (made.1 ≡ first_pass made.0)) }
     {
-        let places = key.places();
-        let (begins, end) = blocks(alloc, key)?;
-        let (references, fronts) = references(alloc, key, end)?;
-        let ends = fronts_end(key, fronts);
-        let (table, seat) = placed_table(alloc, key, references.as_slice(), fronts, ends)?;
-        let count = table.word_count();
-        let words = BatchWords {
-            table,
-            places,
-            begins,
-            references,
-            fronts,
-            ends,
-            count,
-        };
-        Ok((
-            words,
-            Pass {
-                seat,
-                bodies: 0,
-                placed: true,
-            },
-        ))
+        begun(alloc, key, true)
     }
 
     /// The words of a batch of which nothing is placed yet, all 0, and its first pass. An error means out of memory.
@@ -181,29 +172,7 @@ impl<K: BatchData> BatchWords<K> {
         requires { K.placed key.now ≡ false }
         ensures { IfOk result (λ made. (made.0.key ≡ key.now) × (made.1 ≡ open_pass made.0)) }
     {
-        let places = key.places();
-        let (begins, end) = blocks(alloc, key)?;
-        let (references, fronts) = references(alloc, key, end)?;
-        let ends = fronts_end(key, fronts);
-        let (table, seat) = table_of(alloc, key, ends)?;
-        let count = table.word_count();
-        let words = BatchWords {
-            table,
-            places,
-            begins,
-            references,
-            fronts,
-            ends,
-            count,
-        };
-        Ok((
-            words,
-            Pass {
-                seat,
-                bodies: 0,
-                placed: false,
-            },
-        ))
+        begun(alloc, key, false)
     }
 
     /// Cuts a pass in two, by one load: the first goes on and the second begins, and neither is sole.

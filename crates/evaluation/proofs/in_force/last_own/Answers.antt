@@ -7,7 +7,7 @@ use Rattle.log_batch.specs.Supplied.{batch_of}
 use Rattle.evaluation.specs.Seen.{seen_at, seen_view}
 use Rattle.evaluation.specs.Sought.{IsLastEnd, is_sought, slot_end}
 use Rattle.evaluation.specs.ReadSource.{Reader}
-use Rattle.evaluation.proofs.Steps.{last-own, last-own-all, last-own-none}
+use Rattle.evaluation.proofs.Steps.{end-shown, last-own, last-own-all, last-own-none}
 use Rattle.evaluation.proofs.LastEnds.{last-greatest}
 use Rattle.evaluation.proofs.in_force.last_own.Goals as goal
 
@@ -18,17 +18,19 @@ loop-from-preserved g c =
     let passes = is_sought c.args.sought.now in
     let of_log = c.slot_count-count.ensures.of_log in
     let first : IsNext (is_to c.args.sought.now.grantee c.args.sought.now.kind c.args.sought.now.table) (batch_slots (batch_of ranged)) c.loop-from.from (Some c.in-Some.slot) = c.in-Some.ensures in
-    let end : c.end_sought.result ≡ slot_end passes (slot_at (seen_view (seen_at ranged index)) c.in-Some.slot) =
-    c.end_sought.ensures.value ∙ ap (λ (reader : Reader). slot_end passes (slot_at (seen_view (seen_at ranged reader.index)) c.in-Some.slot)) c.loop-from.invariant.source in
+    let end : c.end_if_sought.result ≡ slot_end passes (slot_at (seen_view (seen_at ranged index)) c.in-Some.slot) =
+    c.end_if_sought.ensures
+    ∙ end-shown passes _ c.record_shown-grant.result.0 c.record_shown-grant.result.1 c.record_shown-grant.ensures.grant c.record_shown-grant.ensures.end
+    ∙ ap (λ (reader : Reader). slot_end passes (slot_at (seen_view (seen_at ranged reader.index)) c.in-Some.slot)) c.loop-from.invariant.source in
     let above = first.0 in
     record {
-      source = c.end_sought.ensures.same.0 ∙ c.loop-from.invariant.source;
-      kept = c.end_sought.ensures.same.1 ∙ c.loop-from.invariant.kept;
+      source = c.record_shown-grant.ensures.same.0 ∙ c.loop-from.invariant.source;
+      kept = c.record_shown-grant.ensures.same.1 ∙ c.loop-from.invariant.kept;
       count = c.loop-from.invariant.count;
       own = omega (arith, above, c.loop-from.invariant.own);
       last =
           subst (λ (place : Option ℕ). IsLastEnd passes (seen_view (seen_at ranged index)) (λ k. nat_lt k (c.in-Some.slot + 1)) place) (sym c.later-place.ensures)
-          (last-own ranged of_log index c.args.sought.now c.loop-from.from c.in-Some.slot c.loop-from.place c.end_sought.result c.loop-from.invariant.last first end);
+          (last-own ranged of_log index c.args.sought.now c.loop-from.from c.in-Some.slot c.loop-from.place c.end_if_sought.result c.loop-from.invariant.last first end);
     }
 
 pub returns-in_default-clause-last : goal.returns-in_default-clause-last

@@ -1,4 +1,4 @@
-use Rattle.std.proofs.Common.{◌≡◌, ◌+◌, ℕ, List, Some, sym, ap, ◌∙◌, subst, arith}
+use Rattle.std.proofs.Common.{◌≡◌, ◌+◌, ℕ, List, Some, sym, ap, ◌∙◌, rules, subst, arith}
 use Rattle.std.specs.Prelude.{All, IsSome, slice_get}
 use Rattle.model_base.specs.Outcomes.{at_place, deeds_before, owners, rows_before}
 use Rattle.model_base.specs.References.{tables_of}
@@ -14,31 +14,34 @@ use Rattle.evaluation.proofs.Comes.{needs-covered, rows-fit, words-are}
 use Rattle.evaluation.proofs.Slots.{all-covered, shows_seen}
 use Rattle.evaluation.proofs.judged.judge.Goals as goal
 
-pub own_words-requires-clause-shaped : goal.own_words-requires-clause-shaped
-own_words-requires-clause-shaped g c =
+pub own_words-requires : goal.own_words-requires
+own_words-requires g c =
     let ranged = c.args.batch.now in
     let place = ranged.first + (g.T.ReadSource.as_reader c.args.source).index in
     let statement = c.statement-statement.result.now in
     let at = subst (λ index. slice_get ranged.log.statements (ranged.first + index) ≡ Some statement) c.reader.ensures.value c.statement-statement.ensures.at in
     let columns : c.all_columns-columns.result.now ≡ ranged.log.names.columns =
     c.all_columns-columns.ensures.value ∙ ap (λ (log : Accepted). log.names.columns) c.log.ensures.value in
+    let index = c.reader.ensures.value ∙ sym (ap (λ (reader : Reader). reader.index) c.show_rows.ensures.same.0) in
     record {
-      rows = rows_before ranged.log.statements place;
-      shows = c.show_rows.ensures.shows statement at;
-      shape =
-          subst (λ (list : List ℕ). HaveColumns (columns_in list) (rows_before ranged.log.statements place)) (sym columns)
-          (rows-fit ranged c.log.ensures.of_log place);
+      runnable = search rules;
+      apart = search rules;
+      fits = search rules;
+      narrow = search rules;
+      tables = search rules;
+      shaped = record {
+        rows = rows_before ranged.log.statements place;
+        shows = c.show_rows.ensures.shows statement at;
+        shape =
+            subst (λ (list : List ℕ). HaveColumns (columns_in list) (rows_before ranged.log.statements place)) (sym columns)
+            (rows-fit ranged c.log.ensures.of_log place);
+      };
+      fresh = search rules;
+      covered =
+          needs-covered (seen_view (seen_at ranged (g.T.ReadSource.as_reader c.show_rows.new.source).index)).owner statement.form
+          (subst (λ index. All (λ table. IsSome ((seen_view (seen_at ranged index)).owner table)) (tables_of statement.form)) index
+          (all-covered ranged c.log.ensures.whole c.reader.result statement c.statement-statement.ensures.at));
     }
-
-pub own_words-requires-clause-covered : goal.own_words-requires-clause-covered
-own_words-requires-clause-covered g c =
-    let ranged = c.args.batch.now in
-    let statement = c.statement-statement.result.now in
-    let same = ap (λ (reader : Reader). reader.index) c.show_rows.ensures.same.0 in
-    let index = c.reader.ensures.value ∙ sym same in
-    needs-covered (seen_view (seen_at ranged (g.T.ReadSource.as_reader c.show_rows.new.source).index)).owner statement.form
-    (subst (λ index. All (λ table. IsSome ((seen_view (seen_at ranged index)).owner table)) (tables_of statement.form)) index
-    (all-covered ranged c.log.ensures.whole c.reader.result statement c.statement-statement.ensures.at))
 
 pub returns-clause-value : goal.returns-clause-value
 returns-clause-value g c =
