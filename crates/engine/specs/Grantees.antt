@@ -1,5 +1,5 @@
--- To whom the grants of a book were made. Each grant of a kind to a grantee is a record by itself: R. Fagin, "On an Authorization Mechanism",
--- ACM Transactions on Database Systems 3 (1978).
+-- To whom the grants of a book were made. Each grant of a kind to a grantee is a record by itself: R. Fagin, "On an Authorization
+-- Mechanism", ACM Transactions on Database Systems 3 (1978).
 use Rattle.std.specs.Prelude.{◌==◌, ℕ, List, Option}
 use Rattle.std.specs.List.{find, flat_map}
 use Rattle.std.specs.Option.{option_map, option_to_list}

@@ -1,6 +1,6 @@
 -- How a range of a log is run over what is before it. In the order of the log the versions that a transaction reads are the newest, and
 -- what it writes are versions of its place: J. M. Faleiro and D. J. Abadi, "Rethinking Serializable Multiversion Concurrency Control",
--- PVLDB 8 (2015), section 3. That a place is cut off again where memory is refused is this project's own.
+-- PVLDB 8 (2015), section 3. That a place is cut off again where memory runs out is this project's own.
 use Rattle.std.specs.Prelude.{◌≡◌, ◌≤◌, ◌-◌, ◌++◌, ℕ, List, length}
 use Rattle.model_base.specs.declared.outcome.Outcome.{Outcome}
 use Rattle.model_base.specs.declared.statement.Statement.{Statement}

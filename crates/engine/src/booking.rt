@@ -15,11 +15,12 @@ use sequencer::LogTail;
 use std::alloc::{AllocError, Global};
 
 /// Makes the grants of a place that are left in the book, one after another. On `Err`, out of memory.
+#[inline(always)]
 fn make_grants(
     book: &mut RememberingBook,
     log: &LogTail,
     place: Place,
-    rest: &mut Deeds,
+    rest: &mut Deeds<'_>,
 ) -> Result<(), AllocError>
     requires making { IsMaking log.now.log.statements place rest.old book.old }
     ensures ok { OnOk result (IsBookState log.now.log.statements (place + 1) book.new) }
@@ -31,15 +32,15 @@ fn make_grants(
     Ok(())
 }
 
-/// Makes the deeds of a place in the book, one after another: its grants, or its one revocation. Returns what they resulted in. On `Err`, out
-/// of memory.
+/// Makes the deeds of a place in the book, one after another: its grants, or its one revocation. Returns what they resulted in. On `Err`,
+/// out of memory.
 #[inline(always)]
 fn make(
     alloc: Global,
     book: &mut RememberingBook,
     log: &LogTail,
     place: Place,
-    deeds: &mut Deeds,
+    deeds: &mut Deeds<'_>,
 ) -> Result<DeedDone, AllocError>
     requires stands { IsBookState log.now.log.statements place book.old }
     requires next { deeds_before log.now.log.statements (place + 1) ≡ deeds_before log.now.log.statements place ++ deeds.old }
@@ -86,10 +87,7 @@ pub(crate) fn make_deeds(
         (deeds_of place statement.now.user statement.now.form)) }
     ensures cut { (first : ℕ) → first ≤ place → cut_book first book.new ≡ cut_book first book.old }
 {
-    match statement.deed_table() {
-        None => Ok(DeedDone::None),
-        Some(_) => make(alloc, book, log, place, &mut statement.deeds_at(place)),
-    }
+    make(alloc, book, log, place, &mut statement.deeds_at(place))
 }
 
 /// Adds the table that a place creates to the book. On `Err`, out of memory.

@@ -82,7 +82,7 @@ fn push_ends(
 }
 
 /// Appends the grants that are left, in order.
-fn push_grants(grants: &mut Vec<Grant>, rest: &mut Deeds) -> Result<(), AllocError>
+fn push_grants(grants: &mut Vec<Grant>, rest: &mut Deeds<'_>) -> Result<(), AllocError>
     requires { All IsGranting rest.old }
     ensures { OnOk result (grants.new.items ≡ grants.old.items ++ grants_of rest.old) }
 {

@@ -1,10 +1,8 @@
 //! Why a batch or a run ended early.
 
 ghost use Rattle.std.specs.Prelude.{◌≡◌};
-ghost use Rattle.engine.specs.declared.fault.EngineFault.TheVariants.{NoMemory};
 ghost use Rattle.engine.specs.Faults.{batch_fault, engine_fault_text};
 
-use std::alloc::{AllocError, AllocFailed};
 use std::fmt;
 use thiserror::Error;
 use workers::RunFault;
@@ -24,44 +22,19 @@ pub enum EngineFault {
     Spawn = 5,
 }
 
-impl EngineFault {
-    /// What it says to a reader.
-    fn text(self) -> &'static str
-        ensures { result.now ≡ engine_fault_text self }
-    {
-        match self {
-            EngineFault::NoMemory => "out of memory",
-            EngineFault::Read => "cannot read",
-            EngineFault::Write => "cannot write",
-            EngineFault::BadSettings => "bad settings",
-            EngineFault::Spawn => "cannot start a worker",
-        }
-    }
-}
-
 impl fmt::Display for EngineFault {
     ghost use Rattle.std.specs.Prelude.{Some};
 
     ghost output = { λ fault. Some (engine_fault_text fault) };
 
     fn fmt<W: fmt::Write>(&self, f: &mut fmt::Formatter<W>) -> fmt::Result {
-        f.write_str(self.text())
-    }
-}
-
-impl From<AllocError> for EngineFault {
-    ghost from_gives = { λ _ e. e ≡ NoMemory };
-
-    fn from(_e: AllocError) -> EngineFault {
-        EngineFault::NoMemory
-    }
-}
-
-impl<T: Drop> From<AllocFailed<T>> for EngineFault {
-    ghost from_gives = { λ _ e. e ≡ NoMemory };
-
-    fn from(_e: AllocFailed<T>) -> EngineFault {
-        EngineFault::NoMemory
+        f.write_str(match self {
+            EngineFault::NoMemory => "out of memory",
+            EngineFault::Read => "cannot read",
+            EngineFault::Write => "cannot write",
+            EngineFault::BadSettings => "bad settings",
+            EngineFault::Spawn => "cannot start a worker",
+        })
     }
 }
 

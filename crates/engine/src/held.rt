@@ -131,7 +131,7 @@ impl HeldNeeds {
         }
     }
 
-    /// Makes room for what is to be remembered, if there is none. Where memory is refused nothing is remembered.
+    /// Makes room for what is to be remembered, if there is none. Where memory runs out nothing is remembered.
     fn make_room(&mut self)
         ensures { (book : Entries) → AreHeld book self.old → AreHeld book self.new }
     {

@@ -4,71 +4,24 @@
 //! transaction is executed once the versions that it reads are there, and what it writes are versions of its place. In the order
 //! of the log the versions that it reads are the newest.
 
-ghost use Rattle.std.specs.Prelude.{◌≡◌, ◌<◌, ◌≤◌, ◌+◌, ◌-◌, ◌++◌, false, IfOk, List, None, OnErr, OnOk, Some, length, slice_get};
-ghost use Rattle.model_base.specs.declared.outcome.Outcome.{Outcome as Came};
-ghost use Rattle.model_base.specs.Outcomes.{missing, outcome, owners, world_before};
-ghost use Rattle.own_words.specs.Words.{creates};
+ghost use Rattle.std.specs.Prelude.{◌≡◌, ◌<◌, ◌≤◌, ◌+◌, ◌-◌, ◌++◌, IfOk, OnErr, OnOk, Some, length};
+ghost use Rattle.model_base.specs.Outcomes.{outcome};
 ghost use Rattle.engine.specs.Known.{AreKnown, AreNamed};
 ghost use Rattle.engine.specs.RunState.{IsRunState};
 ghost use Rattle.engine.specs.Running.{AddsFrom, HasRun, IsNextRange};
-ghost use Rattle.filling.specs.FinishedRange.{AreOutcomes};
 
 use crate::booking::{create, creates, make_deeds};
 use crate::state::RunState;
 use body::{BodyEnd, Window, run, shows_rows};
 use checker::Admission;
-use model_base::{Outcome, Place, Statement};
+use model_base::{Outcome, Place};
 use sequencer::LogTail;
 use std::alloc::{AllocError, Global};
 use std::ops::Range;
 use workers::Gate;
 
-/// Runs the body of a statement whose needs are all held, and makes its deeds if the body completes. On `Err`, out of memory.
-#[inline(always)]
-fn run_admitted(
-    alloc: Global,
-    state: &mut RunState,
-    window: &mut Window,
-    log: &LogTail,
-    place: Place,
-    statement: &Statement,
-) -> Result<Outcome, AllocError>
-    requires known { AreKnown log.now.log.statements }
-    requires stands { IsRunState log.now.log.statements place state.old.chains state.old.book }
-    requires at { slice_get log.now.log.statements place ≡ Some statement.now }
-    requires form { creates statement.now.form ≡ false }
-    requires admitted { missing (owners log.now.log.statements) (world_before log.now.log.statements place)
-        statement.now.user statement.now.form ≡ None }
-    ensures came { IfOk result (λ found. outcome log.now.log.statements place ≡ Some found) }
-    ensures stands { OnOk result (IsRunState log.now.log.statements (place + 1) state.new.chains state.new.book) }
-    ensures adds { AddsFrom place state.old state.new }
-{
-    shows_rows();
-    let _len = log.len();
-    let _dropped = log.dropped();
-    let _mark = state.chains.mark();
-    state.chains.fill_window(statement, window);
-    match run(statement, window) {
-        BodyEnd::Completed => {
-            // A window has a row for each access, which the contract of reading one gives.
-            let _row = window.row(0);
-            state.chains.put_place(statement.accesses(), window)?;
-            let deed = make_deeds(alloc, &mut state.book, log, place, statement)?;
-            let outputs = window.outputs();
-            Ok(Outcome::Done { outputs, deed })
-        }
-        BodyEnd::Aborted { step, reason } => {
-            state.chains.pass();
-            Ok(Outcome::Aborted { step, reason })
-        }
-        BodyEnd::Undeclared { step } => {
-            state.chains.pass();
-            Ok(Outcome::Undeclared { step })
-        }
-    }
-}
-
-/// Runs a place over the state before it, which is then the one before the next place. On `Err`, out of memory.
+/// Runs a place over the state before it, which is then the one before the next place: it creates its table, or it is denied, or its body
+/// is run, and makes its deeds if it completes. On `Err`, out of memory.
 #[inline(always)]
 fn run_place(
     alloc: Global,
@@ -98,39 +51,31 @@ fn run_place(
             state.chains.pass();
             Ok(Outcome::Denied { need, cause })
         }
-        Admission::Admitted => run_admitted(alloc, state, window, log, place, statement),
+        Admission::Admitted => {
+            shows_rows();
+            let _dropped = log.dropped();
+            let _mark = state.chains.mark();
+            state.chains.fill_window(statement, window);
+            match run(statement, window) {
+                BodyEnd::Completed => {
+                    // A window has a row for each access, which the contract of reading one gives.
+                    let _row = window.row(0);
+                    state.chains.put_place(statement.accesses(), window)?;
+                    let deed = make_deeds(alloc, &mut state.book, log, place, statement)?;
+                    let outputs = window.outputs();
+                    Ok(Outcome::Done { outputs, deed })
+                }
+                BodyEnd::Aborted { step, reason } => {
+                    state.chains.pass();
+                    Ok(Outcome::Aborted { step, reason })
+                }
+                BodyEnd::Undeclared { step } => {
+                    state.chains.pass();
+                    Ok(Outcome::Undeclared { step })
+                }
+            }
+        }
     }
-}
-
-/// Runs the places of a range, and appends their outcomes. On `Err`, out of memory, all that was added is of places of the range.
-fn run_places<G: Gate>(
-    alloc: Global,
-    state: &mut RunState,
-    log: &LogTail,
-    range: Range<Place>,
-    gate: &G,
-    outcomes: &mut Vec<Outcome>,
-) -> Result<(), AllocError>
-    requires next { IsNextRange log.now range.start range.end state.old }
-    requires known { AreKnown log.now.log.statements }
-    requires named { AreNamed log.now.log.statements }
-    ensures stands { OnOk result (IsRunState log.now.log.statements range.end state.new.chains state.new.book) }
-    ensures adds { AddsFrom range.start state.old state.new }
-    ensures came { (found : List Came) × (outcomes.new.items ≡ outcomes.old.items ++ found)
-        × OnOk result (AreOutcomes log.now.log.statements range.start (range.end - range.start) found) }
-{
-    let _len = log.len();
-    let mut window = Window::new();
-    let size = (range.end - range.start) as usize;
-    outcomes.reserve(size)?;
-    for index in 0..size {
-        let place = range.start + index as u64;
-        gate.before(place);
-        let found = run_place(alloc, state, &mut window, log, place)?;
-        outcomes.push_reserved(found);
-        gate.after(place);
-    }
-    Ok(())
 }
 
 /// Runs the places of a range, one after another, and appends their outcomes; the state is the one before the range's end then. The gate is
@@ -151,14 +96,26 @@ pub fn run_in_order<G: Gate>(
     ensures state { OnErr result (state.new ≡ state.old) }
     ensures outcomes { OnErr result (outcomes.new.items ≡ outcomes.old.items) }
 {
-    let start = range.start;
-    let before = outcomes.len();
+    let _len = log.len();
     let _mark = state.chains.mark();
-    let done = run_places(alloc, state, log, range, gate, outcomes);
-    if done.is_err() {
-        state.chains.cut(start);
-        state.book.cut(start);
-        outcomes.truncate(before);
+    let start = range.start;
+    let size = (range.end - start) as usize;
+    let before = outcomes.len();
+    let mut window = Window::new();
+    outcomes.reserve(size)?;
+    for index in 0..size {
+        let place = start + index as u64;
+        gate.before(place);
+        match run_place(alloc, state, &mut window, log, place) {
+            Ok(found) => outcomes.push_reserved(found),
+            Err(refused) => {
+                state.chains.cut(start);
+                state.book.cut(start);
+                outcomes.truncate(before);
+                return Err(refused);
+            }
+        }
+        gate.after(place);
     }
-    done
+    Ok(())
 }

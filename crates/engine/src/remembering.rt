@@ -70,7 +70,7 @@ impl RememberingBook {
     }
 
     /// Whether the statement is admitted at a place above all of the book, as `admit` gives by the book's view there. What is remembered as
-    /// held isn't looked up. Where memory is refused nothing more is remembered.
+    /// held isn't looked up. Where memory runs out nothing more is remembered.
     #[inline(always)]
     pub(crate) fn admit(&mut self, statement: &Statement, place: Place) -> Admission
         requires later { IsLater self.old place }

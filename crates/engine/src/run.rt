@@ -1,7 +1,6 @@
 //! A log of which a beginning is finished.
 
-ghost use Rattle.std.specs.Prelude.{◌≡◌, ◌≢◌, ◌<◌, ◌≤◌, ◌+◌, ◌-◌, ◌++◌, Err, IfOk, OnErr, OnOk, length};
-ghost use Rattle.chains.specs.Store.{versions_between};
+ghost use Rattle.std.specs.Prelude.{◌≡◌, ◌≢◌, ◌<◌, ◌≤◌, ◌+◌, ◌++◌, Err, OnErr, OnOk, length};
 ghost use Rattle.engine.specs.Known.{AreKnown, AreNamed};
 ghost use Rattle.engine.specs.RunState.{IsRunState};
 ghost use Rattle.engine.specs.Running.{HasRun, IsNextRange};
@@ -77,82 +76,8 @@ struct Runner<'a, T, G> {
     gate: &'a G,
 }
 
-/// The outcomes and the versions of the places of a range, placed and run as a batch on shared words.
-fn ran<T: Threads + Wait + Sync, G: Gate + Sync>(
-    runner: &Runner<'_, T, G>,
-    state: &RunState,
-    log: &LogTail,
-    range: Range<Place>,
-) -> Result<DecodedBatch, RunFault>
-    requires partitions { 0 < runner.now.crew.partitions }
-    requires some { range.start < range.end }
-    requires next { IsNextRange log.now range.start range.end state.now }
-    ensures outcomes { IfOk result (λ taken. AreOutcomes log.now.log.statements range.start
-        (range.end - range.start) taken.outcomes.items) }
-    ensures versions { IfOk result (λ taken. taken.versions.items ≡ versions_between log.now.log.statements range.start range.end) }
-{
-    let (start, end) = (range.start, range.end);
-    let Runner {
-        rt,
-        alloc,
-        crew,
-        gate,
-    } = *runner;
-    let partitions = crew.partitions.min(MOST_PARTITIONS);
-    let before = StateBefore {
-        chains: &state.chains,
-        book: state.book.book(),
-    };
-    let batch = LogBatch::open(alloc, log, before, start..end, partitions)?;
-    let done = execute(rt, alloc, batch, gate, crew.workers)?;
-    let taken = take(alloc, log, &done, start..end)?;
-    Ok(taken)
-}
-
-/// Runs the places of a range as a batch on shared words, and appends their outcomes; the state is the one before the range's end then.
-/// After an error state and outcomes are as they were.
-fn run_by_workers<T: Threads + Wait + Sync, G: Gate + Sync>(
-    runner: &Runner<'_, T, G>,
-    state: &mut RunState,
-    log: &LogTail,
-    range: Range<Place>,
-    outcomes: &mut Vec<Outcome>,
-) -> Result<(), RunFault>
-    requires partitions { 0 < runner.now.crew.partitions }
-    requires some { range.start < range.end }
-    requires next { IsNextRange log.now range.start range.end state.old }
-    requires known { AreKnown log.now.log.statements }
-    ensures ok { OnOk result (HasRun log.now.log.statements range.start range.end state.old state.new
-        outcomes.old.items outcomes.new.items) }
-    ensures state { OnErr result (state.new ≡ state.old) }
-    ensures outcomes { OnErr result (outcomes.new.items ≡ outcomes.old.items) }
-{
-    let (start, end) = (range.start, range.end);
-    let DecodedBatch {
-        outcomes: mut came,
-        versions,
-    } = ran(runner, state, log, start..end)?;
-    let before = outcomes.len();
-    outcomes.append(&mut came)?;
-    let moved = advance(
-        runner.alloc,
-        state,
-        log,
-        &outcomes[before..],
-        versions,
-        start..end,
-    );
-    match moved {
-        Ok(()) => Ok(()),
-        Err(_refused) => {
-            outcomes.truncate(before);
-            Err(RunFault::NoMemory)
-        }
-    }
-}
-
-/// Runs the places of a range: in order, on this thread, where there is one worker, and on shared words else. The result is the
-/// same, as both contracts say.
+/// Runs the places of a range: in order, on this thread, where there is one worker, and as a batch on shared words else. Appends their
+/// outcomes; the state is the one before the range's end then. After an error state and outcomes are as they were.
 fn run_range<T: Threads + Wait + Sync, G: Gate + Sync>(
     runner: &Runner<'_, T, G>,
     state: &mut RunState,
@@ -170,13 +95,42 @@ fn run_range<T: Threads + Wait + Sync, G: Gate + Sync>(
     ensures outcomes { OnErr result (outcomes.new.items ≡ outcomes.old.items) }
     ensures alone { runner.now.crew.workers ≤ 1 → result ≢ Err RunFault.Spawn }
 {
-    if runner.crew.workers <= 1 || range.start == range.end {
-        return match run_in_order(runner.alloc, state, log, range, runner.gate, outcomes) {
+    let Runner {
+        rt,
+        alloc,
+        crew,
+        gate,
+    } = *runner;
+    let (start, end) = (range.start, range.end);
+    if crew.workers <= 1 || start == end {
+        return match run_in_order(alloc, state, log, range, gate, outcomes) {
             Ok(()) => Ok(()),
             Err(_refused) => Err(RunFault::NoMemory),
         };
     }
-    run_by_workers(runner, state, log, range, outcomes)
+    let DecodedBatch {
+        outcomes: mut came,
+        versions,
+    } = {
+        let partitions = crew.partitions.min(MOST_PARTITIONS);
+        let before = StateBefore {
+            chains: &state.chains,
+            book: state.book.book(),
+        };
+        let batch = LogBatch::open(alloc, log, before, start..end, partitions)?;
+        let done = execute(rt, alloc, batch, gate, crew.workers)?;
+        take(alloc, log, &done, start..end)?
+    };
+    let before = outcomes.len();
+    outcomes.append(&mut came)?;
+    let moved = advance(alloc, state, log, &outcomes[before..], versions, start..end);
+    match moved {
+        Ok(()) => Ok(()),
+        Err(_refused) => {
+            outcomes.truncate(before);
+            Err(RunFault::NoMemory)
+        }
+    }
 }
 
 impl Engine {
@@ -458,7 +412,8 @@ impl Engine {
         forget_first(&mut self.past, &mut self.outcomes, count);
     }
 
-    /// Drops the statements and the outcomes of the places below this one. It doesn't allocate, and costs what there is to drop and to move.
+    /// Drops the statements and the outcomes of the places below this one. It doesn't allocate, and costs what there is to drop and to
+    /// move.
     pub fn forget_to(&mut self, place: Place)
         requires order { self.old.dropped ≤ place }
         requires within { place ≤ finished self.old }

@@ -55,7 +55,7 @@ pub record IsChain (owners : List ℕ) (grants : List Grant) (user : ℕ) (need 
   pub among : All (Contains grants) chain
   pub leads : LeadsTo owners chain user need
 
--- what is shown of the need before a place is so: the user owns the table; or the chain is one of grants in force there; or
+-- what is shown of the need before a place holds: the user owns the table; or the chain is one of grants in force there; or
 -- the need isn't held there and never was; or it isn't, this revocation took it last, and the chain was in force before that
 abbrev pub IsSound : List ℕ → List Deed → ℕ → ℕ → Need → Shown → Type 0
 IsSound owners deeds place user need Shown.Owner = IsTrue (owns owners user need.table)

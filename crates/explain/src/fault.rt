@@ -4,7 +4,7 @@ ghost use Rattle.std.specs.Prelude.{◌≡◌};
 ghost use Rattle.explain.specs.declared.fault.ExplainFault.TheVariants.{NoMemory};
 ghost use Rattle.explain.specs.Faults.{explain_fault_text};
 
-use std::alloc::{AllocError, AllocFailed};
+use std::alloc::AllocError;
 use std::fmt;
 use thiserror::Error;
 
@@ -21,27 +21,18 @@ pub enum ExplainFault {
     Forgotten,
 }
 
-impl ExplainFault {
-    /// What it says to a reader.
-    fn text(self) -> &'static str
-        ensures { result.now ≡ explain_fault_text self }
-    {
-        match self {
-            ExplainFault::NoSuchPlace => "no such place",
-            ExplainFault::NotFinished => "not finished",
-            ExplainFault::NoMemory => "out of memory",
-            ExplainFault::Forgotten => "forgotten",
-        }
-    }
-}
-
 impl fmt::Display for ExplainFault {
     ghost use Rattle.std.specs.Prelude.{Some};
 
     ghost output = { λ fault. Some (explain_fault_text fault) };
 
     fn fmt<W: fmt::Write>(&self, f: &mut fmt::Formatter<W>) -> fmt::Result {
-        f.write_str(self.text())
+        f.write_str(match self {
+            ExplainFault::NoSuchPlace => "no such place",
+            ExplainFault::NotFinished => "not finished",
+            ExplainFault::NoMemory => "out of memory",
+            ExplainFault::Forgotten => "forgotten",
+        })
     }
 }
 
@@ -49,14 +40,6 @@ impl From<AllocError> for ExplainFault {
     ghost from_gives = { λ _ e. e ≡ NoMemory };
 
     fn from(_e: AllocError) -> ExplainFault {
-        ExplainFault::NoMemory
-    }
-}
-
-impl<T: Drop> From<AllocFailed<T>> for ExplainFault {
-    ghost from_gives = { λ _ e. e ≡ NoMemory };
-
-    fn from(_e: AllocFailed<T>) -> ExplainFault {
         ExplainFault::NoMemory
     }
 }

@@ -1,13 +1,9 @@
 //! What holds of all explanations.
 
-ghost use Rattle.std.specs.Prelude.{◌≡◌, ◌≤◌, ◌↔◌, ℕ, All, List, Some, slice_get, true};
-ghost use Rattle.model_base.specs.Admitted.{IsPrivileged};
-ghost use Rattle.model_base.specs.Outcomes.{deeds_before, owners};
-ghost use Rattle.model_base.specs.Privileges.{holds};
+ghost use Rattle.std.specs.Prelude.{◌≡◌, ◌≤◌, ℕ, All, List, Some, slice_get};
 ghost use Rattle.model_base.specs.declared.statement.Statement.{Statement};
 ghost use Rattle.explain.specs.declared.line.Line.{Line};
-ghost use Rattle.explain.specs.ExplainedNeeds.{tells_held};
-ghost use Rattle.explain.specs.Explained.{IsExplainedBy, LinesAreGranted, explained};
+ghost use Rattle.explain.specs.Explained.{IsExplainedBy, LinesAreGranted, TellsHolding, TellsPrivilege, explained};
 
 /// The lines that explain a place are sound, so the check accepts them.
 pub fn explanations_are_sound()
@@ -20,12 +16,10 @@ pub fn explanations_are_sound()
 pub fn accepted_needs_are_held()
     ensures held { (log : List Statement) (place : ℕ) (statement : Statement) (lines : List Line)
         → slice_get log place ≡ Some statement → IsExplainedBy log place lines
-        → All (λ (line : Line). tells_held line.shown
-        ≡ holds (owners log) (deeds_before log place) statement.user line.need) lines }
+        → All (TellsHolding log place statement.user) lines }
     ensures privileged { (log : List Statement) (place : ℕ) (statement : Statement) (lines : List Line)
         → slice_get log place ≡ Some statement → IsExplainedBy log place lines
-        → All (λ (line : Line). (tells_held line.shown ≡ true)
-        ↔ IsPrivileged (owners log) (deeds_before log place) statement.user line.need) lines }
+        → All (TellsPrivilege log place statement.user) lines }
 {}
 
 /// The records that explain a place are of grants that were made before it, and so before each later place.

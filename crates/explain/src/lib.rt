@@ -3,7 +3,7 @@
 //! `explain` returns for a finished place whose statement is kept how each need is held, or was lost: ownership, or the
 //! path of grants from the owner (`path_at`). `check` says whether an explanation that anyone hands in is sound by a log
 //! and a book; it doesn't allocate and shares nothing with `explain`. `explanations_are_sound` and
-//! `accepted_needs_are_held` connect them; `explanations_name_earlier_grants` says of what grants an explanation tells.
+//! `accepted_needs_are_held` connect them; `explanations_name_earlier_grants` says what grants an explanation names.
 //! Both cost the grants on the paths.
 //!
 //! After P. P. Griffiths and B. W. Wade, "An Authorization Mechanism for a Relational Database System", ACM TODS 1

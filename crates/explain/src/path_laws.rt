@@ -10,7 +10,7 @@ ghost use Rattle.model_base.specs.declared.deed.Need.{Need};
 ghost use Rattle.model_base.specs.declared.statement.Statement.{Statement};
 ghost use Rattle.explain.specs.Lines.{HaveOneGrantor, IsSound, PlacesRise, shown_of};
 
-/// What there is to show of a need is so, if the grants of each place have one grantor: the path of a held need is a chain that bears it,
+/// What there is to show of a need holds, if the grants of each place have one grantor: the path of a held need is a chain that bears it,
 /// and so is, at the revocation that took it last, the path of a lost one.
 pub fn shown_needs_are_sound()
     ensures { (owners : List ℕ) (deeds : List Deed) (place user : ℕ) (need : Need) → IsProper owners deeds

@@ -61,7 +61,7 @@ pub fn explain_need(
     }
 }
 
-/// Whether what is shown of the need before a place is so, whether or not the chains that it names are the paths. It doesn't allocate.
+/// Whether what is shown of the need before a place holds, whether or not the chains that it names are the paths. It doesn't allocate.
 pub fn is_sound(book: &Book, place: Place, user: User, need: &Need, shown: &Shown) -> bool
     requires covered { need.now.table < length book.now.tables }
     ensures { (owners : List ℕ) (deeds : List Deed) → ShowsBook book.now owners deeds

@@ -1,7 +1,7 @@
 -- The numbers of the listed ends of some records.
 use Rattle.std.proofs.Common.{◌≡◌, ◌≢◌, ℕ, zero, suc, ◌+◌, ◌<◌, ◌==◌, true, false, cond, Option, Some, None, List, [], ◌∷◌, ◌++◌, length, get_or, drop, drop-cons, add-one, append_assoc, refl, sym, ap, ◌∙◌, subst, arith, inl, inr, ⊎_elim}
 use Rattle.std.specs.Prelude.{nat_lt, slice_get}
-use Rattle.std.specs.List.{list_any, position_or_len}
+use Rattle.std.specs.List.{position_or_len}
 use Rattle.std.specs.Option.{MatchOption, option_to_list}
 use Rattle.std.proofs.lemmas.Bool.{cases_lt, eq-eqb, eqb-true, le-ltb, lt-ltb, true≢false}
 use Rattle.std.proofs.lemmas.List.{get_or-map}
@@ -17,6 +17,7 @@ use Rattle.bohm_core_base.proofs.Whole.{no_grant}
 use Rattle.words.specs.Layout.{IsListed, listed_slot_at}
 use Rattle.words.specs.Views.{In}
 use Rattle.filling_base.specs.Storing.{IsEnding, slot_of}
+use Rattle.filling.specs.Ends.{AreEndedBy}
 use Rattle.filling.specs.Numbers.{number_at, numbers_at}
 use Rattle.filling.proofs.Lists.{Rises, above-at, any-in, at-in, in-any, in-at}
 
@@ -200,7 +201,7 @@ module _ (b : Batch) (listed : List ℕ) where
 
 -- the numbers of the records that a place ends are those of the ends that it sets
 pub ends-of_ranks : (b : Batch) (listed ranks : List ℕ) (index : ℕ) → IsListed b listed → Rises ranks
-    → ((slot : ℕ) (grant : Grant) → slice_get (batch_slots b) slot ≡ Some grant → list_any (λ ranked. ranked == rank grant) ranks ≡ serial_ends b index slot)
+    → AreEndedBy b index ranks
     → ((slot other : ℕ) (grant later : Grant) → slot < other → slice_get (batch_slots b) slot ≡ Some grant → slice_get (batch_slots b) other ≡ Some later → rank grant < rank later)
     → IsEnding b listed index (numbers_at b listed ranks)
 ends-of_ranks b listed ranks index right rise ends order = record {

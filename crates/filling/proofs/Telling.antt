@@ -7,15 +7,16 @@ use Rattle.bohm_core_base.specs.Batch.{Batch, reference_words, batch_slots}
 use Rattle.bohm_core_base.specs.Machine.{end_of, start}
 use Rattle.bohm_core_base.specs.Serial.{is_end, serial_ends, whole_end}
 use Rattle.bohm_core_base.proofs.Whole.{is_end-some}
+use Rattle.log_batch.specs.Supplied.{batch_of}
 use Rattle.filling.specs.Keys.{Key}
 use Rattle.evaluation.specs.ReadSource.{IsDeedBefore, IsReferred, PassWork}
 use Rattle.words.specs.declared.knowledge.Knowledge.{Knowledge}
 use Rattle.words.specs.Layout.{IsListed}
 use Rattle.words.specs.Passes.{IsPassOf, PassState, Words, gone_on}
 use Rattle.words.specs.Meanings.{EndMeans, FoundHeld}
-use Rattle.words.specs.Views.{HoldsNone, In, IsSettled, KnowsReferences, with_known, with_sighting}
+use Rattle.words.specs.Views.{HoldsNone, In, IsSettled, KnowsPast, KnowsReferences, with_known, with_sighting}
 use Rattle.filling_base.specs.Extending.{IsSamePass, OnlyLearns}
-use Rattle.filling.specs.Readings.{IsEndBelow, IsReadingPass, KeepsKnown, work_of}
+use Rattle.filling.specs.Readings.{CanRead, IsEndBelow, IsReadingPass, KeepsKnown, work_of}
 use Rattle.filling.proofs.Lists.{at-in, in-back, in-front}
 
 -- what a place is referred to is known done
@@ -48,14 +49,27 @@ pub reading-found : (words : Words Key) (key : Key) (pass after : PassState) (in
 reading-found words key pass after index other named known is reading =
     subst (λ p. IsReadingPass words key p index named known) (sym is)
     (record {
-      same_table = reading.same_table;
-      key = reading.key;
-      within = reading.within;
-      past = reading.past;
-      ready = λ one has. in-front one pass.view.known (other ∷ []) (reading.ready one has);
+      reads = record {
+        same_table = reading.reads.same_table;
+        key = reading.reads.key;
+        within = reading.reads.within;
+        past = reading.reads.past;
+        ready = λ one has. in-front one pass.view.known (other ∷ []) (reading.reads.ready one has);
+      };
       named = reading.named;
       knows = λ one has. in-front one pass.view.known (other ∷ []) (reading.knows one has);
     })
+
+-- a pass that learnt more can read as before
+pub reads-later : (words : Words Key) (key : Key) (pass after : PassState) (index : ℕ) → ((one : ℕ) → In one pass.view.known → In one after.view.known)
+    → after.table ≡ pass.table → KnowsPast (batch_of key.batch) after.view index → CanRead words key pass index → CanRead words key after index
+reads-later words key pass after index more same past reads = record {
+  same_table = same ∙ reads.same_table;
+  key = reads.key;
+  within = reads.within;
+  past = past;
+  ready = λ one has. more one (reads.ready one has);
+}
 
 -- the words that a reading is of are those that were named
 pub named-words : (words words' : Words Key) (named : Option (Words Key)) (pass : PassState) → Some words ≡ named → Some words' ≡ named → IsPassOf words' pass → IsPassOf words pass

@@ -4,7 +4,7 @@
 use Rattle.std.specs.Prelude.{◌≡◌, ◌<◌, ◌+◌, ℕ, suc, [], length, slice_index, slice_index_or}
 use Rattle.bohm_core_base.specs.Batch.{Batch, words_length}
 use Rattle.bohm_core_base.specs.Serial.{serial_words}
-use Rattle.words.specs.Closing.{ClosedLayout, claim_in, own_in}
+use Rattle.words.specs.Closing.{ClosedLayout, HasItsReferences, claim_in, own_in}
 use Rattle.filling.specs.declared.completion.ends.Ends.{Ends}
 use Rattle.filling.specs.declared.completion.batch_progress.BatchProgress.{BatchProgress}
 use Rattle.filling.specs.Ends.{AreSerialEnds, NotesEndsOf}
@@ -15,6 +15,12 @@ pub record IsDoneTo (batch : Batch) (count : ℕ) (progress : BatchProgress) : T
   pub own : (index : ℕ) → index < count → slice_index_or progress.words index [] ≡ serial_words batch index
   pub ended : (index : ℕ) → index < count → NotesEndsOf batch index progress.ends
   pub told : AreSerialEnds batch progress.ends
+
+-- the place comes next: all below it are completed, and the closed batch has its references
+pub record ComesNext (batch : Batch) (closed : ClosedLayout) (index : ℕ) (progress : BatchProgress) : Type 0 where
+  pub within : index < batch.size
+  pub references : HasItsReferences batch closed
+  pub stands : IsDoneTo batch index progress
 
 -- a closed batch has the own words of each place that is done in it
 pub record HasDone (batch : Batch) (closed : ClosedLayout) : Type 0 where

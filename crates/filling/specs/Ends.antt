@@ -1,10 +1,13 @@
 -- The ends that are known of the records of slots. That a grant's record keeps the place at which it ended is R. Fagin's, "On an
 -- Authorization Mechanism", ACM TODS 3 (1978); that a batch says only of those that it ended is this project's own.
-use Rattle.std.specs.Prelude.{◌≡◌, ◌==◌, ◌<◌, ◌+◌, ℕ, zero, suc, true, Option, Some, List, filter, length, map, if◌then◌else◌}
+use Rattle.std.specs.Prelude.{◌≡◌, ◌==◌, ◌<◌, ◌+◌, ℕ, zero, suc, true, Option, Some, List, filter, length, map, slice_get, if◌then◌else◌}
 use Rattle.std.specs.BTreeMap.{get}
+use Rattle.std.specs.List.{list_any}
 use Rattle.std.specs.Ordering.{nat_cmp}
 use Rattle.std.specs.declared.vec.Vec.{Vec}
 use Rattle.std.specs.declared.alloc.Global.{Global}
+use Rattle.model_base.specs.declared.deed.Grant.{Grant}
+use Rattle.model_base.specs.Ranks.{rank}
 use Rattle.bohm_core_base.specs.Batch.{Batch, rank_at, batch_slots}
 use Rattle.bohm_core_base.specs.Serial.{serial_ends, whole_end}
 use Rattle.filling.specs.declared.completion.ends.Ends.{Ends}
@@ -39,6 +42,12 @@ pub record AreSerialEnds (batch : Batch) (ends : Ends) : Type 0 where
 abbrev pub NotesEndsOf : Batch → ℕ → Ends → Type 0
 NotesEndsOf batch index ends =
     (slot : ℕ) → slot < length (batch_slots batch) → serial_ends batch index slot ≡ true → noted_end ends slot ≡ Some (batch.first + index)
+
+-- the place ends the records of these ranks, of those of the slots
+abbrev pub AreEndedBy : Batch → ℕ → List ℕ → Type 0
+AreEndedBy batch index ranks =
+    (slot : ℕ) (grant : Grant) → slice_get (batch_slots batch) slot ≡ Some grant
+    → list_any (λ ended. ended == rank grant) ranks ≡ serial_ends batch index slot
 
 -- of slots with their ends, the ranks of the records that ended at a place, in order
 abbrev pub ended_among : Batch → ℕ → List (ℕ × ℕ) → List ℕ

@@ -28,7 +28,7 @@ IsEndedList ranged index ended =
     (found : Outcome) → outcome_in ranged index ≡ Some found → was_done (serial_words (batch_of ranged) index) ≡ true
     → IsRevocation (batch_of ranged) index → ended ≡ ended_in found
 
--- the outcome of it: the outcome of the place in the log, which is known done from then on; or none, where nothing that the pass knew told
+-- the outcome of it: the outcome of the place in the log, which is known done from then on; or none, where nothing that the pass knew said
 -- it done, and at most the place was found held; or memory ran out, for what a revocation ended
 abbrev pub OutcomeMeans : {E : Type 0} → LogRange → ℕ → Knowledge → Result (Option Outcome) E → Knowledge → Type 0
 OutcomeMeans ranged index view (Ok (Some found)) after =

@@ -44,7 +44,7 @@ pub record AreNewPlacers (words : Words Key) (partitions : ℕ) (placers : List 
 abbrev pub with_all_cut : Knowledge → ℕ → Knowledge
 with_all_cut view partitions = record view { cut = range_with_len 0 partitions }
 
--- the outcome of a step: the place at the front was placed, or there was none any more, or memory was refused, and then neither the words
+-- the outcome of a step: the place at the front was placed, or there was none any more, or memory ran out, and then neither the words
 -- nor the place at the front are others
 abbrev pub AdvancedMeans : LogRange → Placer → Advanced → Placer → Type 0
 AdvancedMeans ranged placer (Next place) after =

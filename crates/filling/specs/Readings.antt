@@ -45,14 +45,24 @@ IsEndBelow batch view slot end =
 abbrev pub KeepsKnown : List ℕ → List ℕ → Type 0
 KeepsKnown known after = (index : ℕ) → In index known → In index after
 
--- the pass is one of the words, which are those of the key, and knows the place placed and all done that it is referred to. The
--- words are those that were named before it began, and all is known that was known then
-pub record IsReadingPass (words : Words Key) (mine : Key) (pass : PassState) (at : ℕ) (first : Option (Words Key))
-    (old : List ℕ) : Type 0 where
+-- the pass is one of the words, which are those of the key, and knows the place placed and all done that it is referred to
+pub record CanRead (words : Words Key) (mine : Key) (pass : PassState) (at : ℕ) : Type 0 where
   pub same_table : IsPassOf words pass
   pub key : words.key ≡ mine
   pub within : at < mine.batch.size
   pub past : KnowsPast (batch_of mine.batch) pass.view at
   pub ready : KnowsReferences (batch_of mine.batch) pass.view at
+
+-- and the words are those that were named before it began, and all is known that was known then
+pub record IsReadingPass (words : Words Key) (mine : Key) (pass : PassState) (at : ℕ) (first : Option (Words Key))
+    (old : List ℕ) : Type 0 where
+  pub reads : CanRead words mine pass at
   pub named : Some words ≡ first
   pub knows : KeepsKnown old pass.view.known
+
+-- the pass is one of the words, which are those of the key, and knows the place done
+pub record KnowsDone (words : Words Key) (mine : Key) (pass : PassState) (at : ℕ) : Type 0 where
+  pub same_table : IsPassOf words pass
+  pub key : words.key ≡ mine
+  pub within : at < mine.batch.size
+  pub known : In at pass.view.known

@@ -18,7 +18,7 @@ DoneMeans ranged index view (Busy place) after = ⊥
 DoneMeans ranged index view (NotPlaced partition) after = ⊥
 DoneMeans ranged index view NoMemory after = OnlyLearns view after × IsRevocation (batch_of ranged) index
 
--- the place was run, and nothing told before that it is done
+-- the place was run, and nothing said before that it is done
 abbrev pub RunMeans : LogRange → ℕ → Knowledge → Tried → Knowledge → Type 0
 RunMeans ranged index view answer after = ¬ (IsKnownDone (batch_of ranged) view index)
     × TriedMeans (batch_of ranged) index view answer after

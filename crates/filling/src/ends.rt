@@ -1,21 +1,17 @@
 //! The ends that a place has to set.
 
-ghost use Rattle.std.specs.Prelude.{◌≡◌, ◌==◌, ◌<◌, ◌++◌, ℕ, IfOk, IsTrue, OnErr, OnOk, Some, false, slice_get, true};
-ghost use Rattle.std.specs.List.{list_any};
+ghost use Rattle.std.specs.Prelude.{◌≡◌, ◌<◌, ◌++◌, IfOk, IsTrue, OnErr, OnOk, Some, false, true};
 ghost use Rattle.std.specs.List.Sorted.{IsStrictlyIncreasing};
 ghost use Rattle.std.specs.Option.{option_to_list};
-ghost use Rattle.model_base.specs.declared.deed.Grant.{Grant};
-ghost use Rattle.model_base.specs.Ranks.{rank};
-ghost use Rattle.bohm_core_base.specs.Batch.{batch_slots, was_done};
-ghost use Rattle.bohm_core_base.specs.Serial.{serial_ends, serial_words};
+ghost use Rattle.bohm_core_base.specs.Batch.{was_done};
+ghost use Rattle.bohm_core_base.specs.Serial.{serial_words};
 ghost use Rattle.log_batch.specs.Supplied.{batch_of};
-ghost use Rattle.words.specs.Passes.{IsPassOf};
-ghost use Rattle.words.specs.Views.{KnowsPast, KnowsReferences};
 ghost use Rattle.filling_base.specs.Extending.{IsSamePass, OnlyLearns};
 ghost use Rattle.filling_base.specs.References.{IsRevocation};
 ghost use Rattle.filling_base.specs.Storing.{IsEnding};
+ghost use Rattle.filling.specs.Ends.{AreEndedBy};
 ghost use Rattle.filling.specs.Numbers.{number_at, numbers_at};
-ghost use Rattle.filling.specs.Readings.{KeepsKnown, work_of};
+ghost use Rattle.filling.specs.Readings.{CanRead};
 
 use crate::key::RangeKey;
 use crate::reader::{Named, PassReader};
@@ -89,27 +85,21 @@ fn numbers_of(key: &RangeKey<'_>, names: &[RecordName]) -> Result<Vec<usize>, Al
     Ok(numbers)
 }
 
-// The names of the records that a done place ends, for the words that are named and a pass that keeps what is named.
-fn judge_names<'b, 'a, N: Named>(
+// The names of the records that a done place ends, in order, by a pass that can read for it; it only learns. An error means out of memory.
+fn names_told<'b, 'a, N: Named>(
     key: &'b RangeKey<'a>,
     words: &'b BatchWords<RangeKey<'a>>,
     holding: Holding,
     index: usize,
 ) -> (Holding, Result<Vec<RecordName>, AllocError>)
-    requires same_table { IsPassOf words.now holding }
-    requires key { words.now.key ≡ key.now }
-    requires within { index < key.now.batch.size }
-    requires past { KnowsPast (batch_of key.now.batch) holding.view index }
-    requires ready { KnowsReferences (batch_of key.now.batch) holding.view index }
-    requires named { Some words.now ≡ N.words }
-    requires knows { KeepsKnown N.known holding.view.known }
+    requires reads { CanRead words.now key.now holding index }
+    requires named { (Some words.now ≡ N.words) × (N.known ≡ holding.view.known) }
     requires done { was_done (serial_words (batch_of key.now.batch) index) ≡ true }
-    ensures ends { IfOk result.1 (λ names. (slot : ℕ) (grant : Grant) → slice_get (batch_slots (batch_of key.now.batch)) slot ≡ Some grant
-        → list_any (λ name. name == rank grant) names.items ≡ serial_ends (batch_of key.now.batch) index slot) }
+    ensures ends { IfOk result.1 (λ names. AreEndedBy (batch_of key.now.batch) index names.items) }
     ensures order { IfOk result.1 (λ names. IsStrictlyIncreasing names.items) }
-    ensures same_table { IsPassOf words.now result.0 }
-    ensures knows { KeepsKnown N.known result.0.view.known }
-    ensures work { work_of result.0 ≡ work_of holding }
+    ensures same { IsSamePass holding result.0 }
+    ensures bodies { result.0.bodies ≡ holding.bodies }
+    ensures learns { OnlyLearns holding.view result.0.view }
 {
     let reader = PassReader::<'_, '_, N> {
         key,
@@ -129,30 +119,6 @@ fn judge_names<'b, 'a, N: Named>(
     (holding, names)
 }
 
-// The names of the records that a done place ends, in order, by a pass that knows the place placed and all done that it is referred to; it
-// only learns. An error means out of memory.
-pub(crate) fn names_told<'b, 'a>(
-    key: &'b RangeKey<'a>,
-    words: &'b BatchWords<RangeKey<'a>>,
-    holding: Holding,
-    index: usize,
-) -> (Holding, Result<Vec<RecordName>, AllocError>)
-    requires same_table { IsPassOf words.now holding }
-    requires key { words.now.key ≡ key.now }
-    requires within { index < key.now.batch.size }
-    requires past { KnowsPast (batch_of key.now.batch) holding.view index }
-    requires ready { KnowsReferences (batch_of key.now.batch) holding.view index }
-    requires done { was_done (serial_words (batch_of key.now.batch) index) ≡ true }
-    ensures ends { IfOk result.1 (λ names. (slot : ℕ) (grant : Grant) → slice_get (batch_slots (batch_of key.now.batch)) slot ≡ Some grant
-        → list_any (λ name. name == rank grant) names.items ≡ serial_ends (batch_of key.now.batch) index slot) }
-    ensures order { IfOk result.1 (λ names. IsStrictlyIncreasing names.items) }
-    ensures same { IsSamePass holding result.0 }
-    ensures bodies { result.0.bodies ≡ holding.bodies }
-    ensures learns { OnlyLearns holding.view result.0.view }
-{
-    judge_names::<Brand>(key, words, holding, index)
-}
-
 // The numbers of the ends that a done place sets, from the names of the records.
 fn ends_numbered(
     key: &RangeKey<'_>,
@@ -160,8 +126,7 @@ fn ends_numbered(
     names: &[RecordName],
 ) -> Result<Vec<usize>, AllocError>
     requires order { IsStrictlyIncreasing names.now }
-    requires ends { (slot : ℕ) (grant : Grant) → slice_get (batch_slots (batch_of key.now.batch)) slot ≡ Some grant
-        → list_any (λ name. name == rank grant) names.now ≡ serial_ends (batch_of key.now.batch) index slot }
+    requires ends { AreEndedBy (batch_of key.now.batch) index names.now }
     ensures { IfOk result (λ ends. IsEnding (batch_of key.now.batch) key.now.slots index ends.items) }
 {
     slots_stand_in_order();
@@ -172,7 +137,7 @@ fn ends_numbered(
 }
 
 // The numbers of the ends that a place with these own words sets, which for one that wasn't done or has no revocation are none. The pass
-// knows done all that it is referred to, and only learns. An error means out of memory, which only a revocation may have.
+// can read for it, and only learns. An error means out of memory, which only a revocation may have.
 pub(crate) fn ends_of<'b, 'a>(
     key: &'b RangeKey<'a>,
     words: &'b BatchWords<RangeKey<'a>>,
@@ -180,11 +145,7 @@ pub(crate) fn ends_of<'b, 'a>(
     index: usize,
     own: &[u64],
 ) -> (Holding, Result<Vec<usize>, AllocError>)
-    requires same_table { IsPassOf words.now holding }
-    requires key { words.now.key ≡ key.now }
-    requires within { index < key.now.batch.size }
-    requires past { KnowsPast (batch_of key.now.batch) holding.view index }
-    requires ready { KnowsReferences (batch_of key.now.batch) holding.view index }
+    requires reads { CanRead words.now key.now holding index }
     requires own { own.now ≡ serial_words (batch_of key.now.batch) index }
     ensures ends { IfOk result.1 (λ ends. IsEnding (batch_of key.now.batch) key.now.slots index ends.items) }
     ensures revokes { OnErr result.1 (IsRevocation (batch_of key.now.batch) index) }
@@ -195,7 +156,7 @@ pub(crate) fn ends_of<'b, 'a>(
     if !was_revoking(key.batch(), index, own) {
         return (holding, Ok(no_ends(key, index)));
     }
-    let (holding, names) = names_told(key, words, holding, index);
+    let (holding, names) = names_told::<Brand>(key, words, holding, index);
     match names {
         Ok(names) => (holding, ends_numbered(key, index, names.as_slice())),
         Err(fault) => (holding, Err(fault)),

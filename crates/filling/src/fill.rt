@@ -1,12 +1,12 @@
 //! Fills a place of a batch of a log.
 
-ghost use Rattle.std.specs.Prelude.{◌≡◌, ◌<◌, []};
+ghost use Rattle.std.specs.Prelude.{◌≡◌, []};
 ghost use Rattle.bohm_core_base.specs.Serial.{serial_words};
 ghost use Rattle.log_batch.specs.Supplied.{batch_of};
-ghost use Rattle.words.specs.Passes.{IsPassOf};
-ghost use Rattle.words.specs.Views.{Holds, KnowsReferences};
+ghost use Rattle.words.specs.Views.{Holds};
 ghost use Rattle.filling_base.specs.Extending.{Finishes, IsSamePass};
 ghost use Rattle.filling_base.specs.Storing.{IsEnding};
+ghost use Rattle.filling.specs.Readings.{CanRead};
 
 use crate::bodies::count_run;
 use crate::ends::ends_of;
@@ -15,6 +15,7 @@ use crate::own::own_told;
 use filling_base::{Fills, learning_comes_before_storing, store};
 use own_words::OwnWords;
 use std::alloc::AllocError;
+use std::marker::Brand;
 use words::{BatchData, BatchWords, Holding, passes_keep_the_fronts_that_they_know};
 
 // Stores the own words of a place that is held with nothing stored, sets its ends and finishes it.
@@ -26,11 +27,8 @@ fn store_place<'a>(
     own: &OwnWords,
     ends: &[usize],
 ) -> Holding
-    requires same_table { IsPassOf words.now holding }
-    requires key { words.now.key ≡ key.now }
-    requires within { index < key.now.batch.size }
+    requires reads { CanRead words.now key.now holding index }
     requires held { Holds holding.view index 0 [] }
-    requires ready { KnowsReferences (batch_of key.now.batch) holding.view index }
     requires own { own.now ≡ serial_words (batch_of key.now.batch) index }
     requires ends { IsEnding (batch_of key.now.batch) key.now.slots index ends.now }
     ensures same { IsSamePass holding result }
@@ -57,7 +55,7 @@ impl Fills for RangeKey<'_> {
         learning_comes_before_storing();
         passes_keep_the_fronts_that_they_know();
         let mut own = OwnWords::new();
-        let holding = own_told(self, words, holding, index, &mut own);
+        let holding = own_told::<Brand>(self, words, holding, index, &mut own);
         let (holding, ends) = ends_of(self, words, holding, index, own.as_slice());
         match ends {
             Ok(ends) => {

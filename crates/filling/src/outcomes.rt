@@ -10,6 +10,7 @@ ghost use Rattle.words.specs.Views.{In};
 ghost use Rattle.filling_base.specs.Extending.{IsSamePass};
 ghost use Rattle.filling_base.specs.References.{IsRevocation};
 ghost use Rattle.filling.specs.Outcomes.{IsEndedList, OutcomeMeans, ended_ranks_at, outcome_in};
+ghost use Rattle.filling.specs.Readings.{KnowsDone};
 
 use crate::ends::has_revocation;
 use crate::key::RangeKey;
@@ -55,10 +56,7 @@ fn ended_record<'a>(
     index: usize,
     number: usize,
 ) -> bool
-    requires same_table { IsPassOf words.now holding.old }
-    requires key { words.now.key ≡ key.now }
-    requires within { index < key.now.batch.size }
-    requires known { In index holding.old.view.known }
+    requires done { KnowsDone words.now key.now holding.old index }
     requires listed { number < length key.now.slots }
     ensures same { holding.new ≡ holding.old }
     ensures value { result ≡ serial_ends (batch_of key.now.batch) index (listed_slot_at key.now.slots number) }
@@ -79,10 +77,7 @@ fn put_ended<'a>(
     number: usize,
     names: &mut Vec<RecordName>,
 ) -> Result<(), AllocError>
-    requires same_table { IsPassOf words.now holding.old }
-    requires key { words.now.key ≡ key.now }
-    requires within { index < key.now.batch.size }
-    requires known { In index holding.old.view.known }
+    requires done { KnowsDone words.now key.now holding.old index }
     requires listed { number < length key.now.slots }
     ensures same { holding.new ≡ holding.old }
     ensures put { OnOk result
@@ -104,10 +99,7 @@ fn ended_names<'a>(
     holding: &mut Holding,
     index: usize,
 ) -> Result<Vec<RecordName>, AllocError>
-    requires same_table { IsPassOf words.now holding.old }
-    requires key { words.now.key ≡ key.now }
-    requires within { index < key.now.batch.size }
-    requires known { In index holding.old.view.known }
+    requires done { KnowsDone words.now key.now holding.old index }
     ensures same { holding.new ≡ holding.old }
     ensures value { IfOk result (λ names. names.items ≡ ended_ranks_at (batch_of key.now.batch) key.now.slots index) }
 {
@@ -127,10 +119,7 @@ fn outcome_told<'a>(
     index: usize,
     ended: Items<RecordName>,
 ) -> Outcome
-    requires same_table { IsPassOf words.now holding.old }
-    requires key { words.now.key ≡ key.now }
-    requires within { index < key.now.batch.size }
-    requires known { In index holding.old.view.known }
+    requires done { KnowsDone words.now key.now holding.old index }
     requires ended { IsEndedList key.now.batch index ended }
     ensures same { holding.new ≡ holding.old }
     ensures value { outcome_in key.now.batch index ≡ Some result }
@@ -152,10 +141,7 @@ fn ended_list<'a>(
     holding: &mut Holding,
     index: usize,
 ) -> Result<Items<RecordName>, AllocError>
-    requires same_table { IsPassOf words.now holding.old }
-    requires key { words.now.key ≡ key.now }
-    requires within { index < key.now.batch.size }
-    requires known { In index holding.old.view.known }
+    requires done { KnowsDone words.now key.now holding.old index }
     ensures same { holding.new ≡ holding.old }
     ensures value { IfOk result (λ ended. IsEndedList key.now.batch index ended) }
     ensures revokes { OnErr result (IsRevocation (batch_of key.now.batch) index) }
@@ -179,10 +165,7 @@ fn outcome_known<'a>(
     holding: &mut Holding,
     index: usize,
 ) -> Result<Outcome, AllocError>
-    requires same_table { IsPassOf words.now holding.old }
-    requires key { words.now.key ≡ key.now }
-    requires within { index < key.now.batch.size }
-    requires known { In index holding.old.view.known }
+    requires done { KnowsDone words.now key.now holding.old index }
     ensures same { holding.new ≡ holding.old }
     ensures value { IfOk result (λ found. outcome_in key.now.batch index ≡ Some found) }
     ensures revokes { OnErr result (IsRevocation (batch_of key.now.batch) index) }

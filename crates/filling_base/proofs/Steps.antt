@@ -6,10 +6,10 @@ use Rattle.words.specs.declared.knowledge.Knowledge.{Knowledge}
 use Rattle.words.specs.Meanings.{FoundHeld}
 use Rattle.words.specs.Views.{In, KeepsFronts, with_event, with_known}
 use Rattle.filling_base.specs.declared.walk.Frame.{Frame}
-use Rattle.filling_base.specs.Extending.{Finishes, HoldsJust, NoPlace, OnlyLearns}
+use Rattle.filling_base.specs.Extending.{Finishes, NoPlace, OnlyLearns}
 use Rattle.filling_base.specs.References.{IsRevocation, reference}
 use Rattle.filling_base.specs.Tries.{HasToWait, IsKnownDone}
-use Rattle.filling_base.specs.Walks.{Ended, IsWalk, KnownTo, LackedMemory, MetHeld, GoesFurther, Spot, Stays, bottom, cost, waiting}
+use Rattle.filling_base.specs.Walks.{IsWalk, KnownTo, LackedMemory, MetHeld, GoesFurther, Spot, Stays, bottom, cost, waiting}
 use Rattle.words.proofs.Known.{keeps-same, past-later}
 use Rattle.filling_base.proofs.Costs.{costs-snoc, less-enter, less-leave, less-next}
 use Rattle.filling_base.proofs.Falling.{falls-at, named}
@@ -187,11 +187,3 @@ module _ (b : Batch) where
       → GoesFurther b (at-spot v at n fs) (at-spot w f.index f.next gs)
   went-out v w at n fs gs f h finishes is =
       (subst (λ (ks : List Frame). IsWalk b (at-spot v at n ks) → GoesFurther b (at-spot v at n ks) (at-spot w f.index f.next gs)) (sym is) (λ k. out-at v w at n gs f k finishes)) h
-
-  pub ended : (v w : Knowledge) (at n : ℕ) (fs gs : List Frame) → IsWalk b (at-spot v at n fs) → Finishes at v w → fs ≡ [] → Ended (at-spot v at n fs) (at-spot w at n gs)
-  ended v w at n fs gs h finishes is = record {
-    goes = finishes.goes;
-    sightings = finishes.sightings;
-    known = subst (λ (ks : List Frame). In (bottom ks at) w.known) (sym is) finishes.known;
-    holds = frees v w at [] (subst (λ (ks : List Frame). HoldsJust v (at ∷ waiting ks)) is h.holds) (λ i has. absurd has) finishes.others finishes.free;
-  }

@@ -1,19 +1,21 @@
 -- A call from its claim to its answer.
-use Rattle.std.proofs.Common.{◌≡◌, ℕ, false, true≢false, List, [], ◌∷◌, ◌++◌, length, refl, sym, ap, ◌∙◌, subst, inl, inr, ⊎_elim, arith}
+use Rattle.std.proofs.Common.{◌≡◌, ℕ, true, false, true≢false, List, [], ◌∷◌, ◌++◌, length, refl, sym, ap, ◌∙◌, subst, inl, inr, ⊎_elim, arith}
+use Rattle.std.specs.Prelude.{Result, Ok, Err, is_err}
 use Rattle.bohm_core_base.specs.declared.event.Event.TheVariants.{Claim}
 use Rattle.bohm_core_base.specs.Batch.{Batch}
 use Rattle.words.specs.declared.knowledge.Knowledge.{Knowledge}
 use Rattle.words.specs.Meanings.{FoundHeld}
-use Rattle.words.specs.Views.{In, KnowsPast, KnowsReferences, with_event, with_known}
-use Rattle.filling_base.specs.declared.run.Tried.{Tried}
+use Rattle.words.specs.Views.{HoldsNone, In, KnowsPast, KnowsReferences, with_event, with_known}
 use Rattle.filling_base.specs.declared.run.Tried.TheVariants.{Done, Busy, NotPlaced, NoMemory}
 use Rattle.filling_base.specs.declared.walk.Frame.{Frame}
-use Rattle.filling_base.specs.Extending.{Extends, HoldsJust, NoPlace, OnlyLearns}
+use Rattle.filling_base.specs.Counting.{FillCounts, counted_more}
+use Rattle.filling_base.specs.Extending.{Extends, Finishes, HoldsJust, NoPlace, OnlyLearns}
 use Rattle.filling_base.specs.References.{IsRevocation}
-use Rattle.filling_base.specs.Tries.{HasToWait, IsKnownDone, MayLackMemory, TriedMeans, is_unplaced}
-use Rattle.filling_base.specs.Walks.{Ended, IsWalk, LackedMemory, MetHeld, GoesFurther, Released, Spot, asked_place, bottom, held, waiting}
-use Rattle.filling_base.proofs.Going.{goes-claim, goes-known, goes-longer, goes-none, goes-same, goes-sighting, goes-then, goes-wider, now-known, refers-later, told-later, waited-before}
-use Rattle.filling_base.proofs.Holding.{met, takes}
+use Rattle.filling_base.specs.Tries.{FillMeans, HasToWait, IsKnownDone, MayLackMemory, MeetsUnplaced, StopsWith, TakesPlaced, TriedMeans}
+use Rattle.filling_base.specs.Walks.{IsWalk, LackedMemory, MetHeld, GoesFurther, Released, Spot, asked_place, bottom, held, waiting}
+use Rattle.filling_base.proofs.Going.{goes-claim, goes-known, goes-longer, goes-none, goes-sighting, goes-then, goes-wider, now-known, refers-later, told-later, waited-before}
+use Rattle.filling_base.proofs.Holding.{frees, holds-nothing, met, takes}
+use Rattle.filling_base.proofs.Learning.{none-later}
 
 -- the call began with what v knows, and is at s; each place that waits had to as it began
 pub record Running (b : Batch) (index : ℕ) (v : Knowledge) (s : Spot) : Type 0 where
@@ -24,102 +26,64 @@ pub record Running (b : Batch) (index : ℕ) (v : Knowledge) (s : Spot) : Type 0
   pub waits : (i : ℕ) → In i (waiting s.frames) → HasToWait b v i
 
 module _ (b : Batch) (index : ℕ) where
-  pub found-done : (v w : Knowledge) → w ≡ with_known v index → TriedMeans b index v Done w
-  found-done v w is = (goes-known NoPlace v w index is, ap (λ (u : Knowledge). u.sightings) is, now-known v w index is)
+  pub found-done : (v w u : Knowledge) → HoldsNone w → OnlyLearns v w → u ≡ with_known w index → StopsWith b index v Done u
+  found-done v w u none learns is = record {
+    tells = (goes-then NoPlace v w u learns.goes (goes-known NoPlace w u index is), ap (λ (x : Knowledge). x.sightings) is ∙ learns.sightings, now-known w u index is);
+    idle = subst (λ (x : Knowledge). HoldsNone x) (sym is) none;
+    told = λ _. refl;
+  }
 
-  pub found-held : (v w : Knowledge) → HoldsJust v [] → ¬ (IsKnownDone b v index) → FoundHeld index v w → TriedMeans b index v (Busy index) w
-  found-held v w holds untold found =
-      let m = met v w index [] holds (λ none. none) found in
-      let g = goes-sighting (HasToWait b v) v w index m.0 in
-      let longer = goes-longer (HasToWait b v) v w g in (
-        g,
-        record {
-          most = omega arith;
-          shared = m.1;
-          untold = untold;
-          count = length v.events;
-          began = omega arith;
-          ended = longer;
-          sighting = ap (λ (u : Knowledge). u.sightings) m.0;
-        },
-      )
+  pub found-held : (v w u : Knowledge) → HoldsNone w → OnlyLearns v w → ¬ (IsKnownDone b w index) → FoundHeld index w u → StopsWith b index v (Busy index) u
+  found-held v w u none learns untold found =
+      let m = met w u index [] (holds-nothing w none) (λ nowhere. nowhere) found in
+      let before = goes-longer NoPlace v w learns.goes in
+      let g = goes-then NoPlace v w u learns.goes (goes-sighting NoPlace w u index m.0) in
+      let longer = goes-longer NoPlace w u (goes-sighting NoPlace w u index m.0) in
+      let mine : ¬ (IsKnownDone b v index) = λ told. untold (told-later b v w index learns.goes.knows told) in record {
+        tells = (
+          goes-none (HasToWait b v) v u g,
+          record {
+            most = omega arith;
+            shared = sym learns.goes.sole ∙ m.1;
+            untold = mine;
+            count = length w.events;
+            began = before;
+            ended = longer;
+            sighting = ap (λ (x : Knowledge). x.sightings) m.0 ∙ ap (λ (l : List (ℕ × ℕ)). l ++ (index, length w.events) ∷ []) learns.sightings;
+          },
+        );
+        idle = subst (λ (x : Knowledge). HoldsNone x) (sym m.0) none;
+        told = λ told. absurd (mine told);
+      }
 
-  pub claimed : (v w : Knowledge) (a : ℕ) → HoldsJust v [] → w ≡ with_event v (Claim a index) → HoldsJust w (index ∷ [])
-  claimed v w a holds is = takes v w a index [] holds (λ i has. absurd has) is
+  pub found-unplaced : (partition : ℕ) (v w : Knowledge) → HoldsNone v → MeetsUnplaced b index partition v w → ¬ (IsKnownDone b v index) → StopsWith b index v (NotPlaced partition) w
+  found-unplaced partition v w none meets untold = record {
+    tells = meets;
+    idle = none-later v w meets.learns none;
+    told = λ told. absurd (untold told);
+  }
 
-  -- the run of a place that was claimed is that of the call
-  pub ran-from : (v w u : Knowledge) (a : ℕ) (answer : Tried) → is_unplaced answer ≡ false → w ≡ with_event v (Claim a index) → TriedMeans b index w answer u → TriedMeans b index v answer u
-  ran-from v w u a (NotPlaced partition) not is tells = absurd (true≢false not)
-  ran-from v w u a Done not is tells =
-      (goes-then NoPlace v w u (goes-claim v w a index is) tells.0, tells.1 ∙ ap (λ (x : Knowledge). x.sightings) is, tells.2)
-  ran-from v w u a (Busy other) not is tells =
-      let g = goes-claim v w a index is in
-      let longer = goes-longer NoPlace v w g in
-      let found = tells.1 in
-      let began = found.began in (
-        goes-then (HasToWait b v) v w u (goes-none (HasToWait b v) v w g)
-            (goes-wider (HasToWait b w) (HasToWait b v) w u (λ i waits. waited-before b v w i g.knows waits) tells.0),
-        record {
-          most = found.most;
-          shared = sym g.sole ∙ found.shared;
-          untold = λ told. found.untold (told-later b v w other g.knows told);
-          count = found.count;
-          began = omega arith;
-          ended = found.ended;
-          sighting = found.sighting ∙ ap (λ (x : Knowledge). x.sightings ++ (other, found.count) ∷ []) is;
-        },
-      )
-  ran-from v w u a NoMemory not is tells =
-      let g = goes-claim v w a index is in (
-        goes-then (MayLackMemory b v) v w u (goes-none (MayLackMemory b v) v w g)
-            (goes-wider (MayLackMemory b w) (MayLackMemory b v) w u
-            (λ i lacks. ⊎_elim (λ waits. inl (waited-before b v w i g.knows waits)) (λ revokes. inr revokes) lacks) tells.0),
-        tells.1 ∙ ap (λ (x : Knowledge). x.sightings) is,
-        λ knows. tells.2 (refers-later b v w index g.knows knows),
-      )
+  -- placed by all, so it was claimed
+  pub claimed : (v w u : Knowledge) (a : ℕ) → HoldsNone w → OnlyLearns v w → ¬ (IsKnownDone b v index) → KnowsPast b w index → u ≡ with_event w (Claim a index) → TakesPlaced b index v u
+  claimed v w u a none learns untold past is = record {
+    goes = goes-then NoPlace v w u learns.goes (goes-claim w u a index is);
+    sightings = ap (λ (x : Knowledge). x.sightings) is ∙ learns.sightings;
+    holds = takes w u a index [] (holds-nothing w none) (λ i has. absurd has) is;
+    past = subst (λ (x : Knowledge). KnowsPast b x index) (sym is) past;
+    untold = untold;
+  }
 
-  -- who only learnt before is given the same
-  pub learnt-from : (v w u : Knowledge) (answer : Tried) → is_unplaced answer ≡ false → OnlyLearns v w → TriedMeans b index w answer u → TriedMeans b index v answer u
-  learnt-from v w u (NotPlaced partition) not learns tells = absurd (true≢false not)
-  learnt-from v w u Done not learns tells =
-      (goes-then NoPlace v w u learns.goes tells.0, tells.1 ∙ learns.sightings, tells.2)
-  learnt-from v w u (Busy other) not learns tells =
-      let g = learns.goes in
-      let longer = goes-longer NoPlace v w g in
-      let found = tells.1 in
-      let began = found.began in (
-        goes-then (HasToWait b v) v w u (goes-none (HasToWait b v) v w g)
-            (goes-wider (HasToWait b w) (HasToWait b v) w u (λ i waits. waited-before b v w i g.knows waits) tells.0),
-        record {
-          most = found.most;
-          shared = sym g.sole ∙ found.shared;
-          untold = λ told. found.untold (told-later b v w other g.knows told);
-          count = found.count;
-          began = omega arith;
-          ended = found.ended;
-          sighting = found.sighting ∙ ap (λ (l : List (ℕ × ℕ)). l ++ (other, found.count) ∷ []) learns.sightings;
-        },
-      )
-  learnt-from v w u NoMemory not learns tells =
-      let g = learns.goes in (
-        goes-then (MayLackMemory b v) v w u (goes-none (MayLackMemory b v) v w g)
-            (goes-wider (MayLackMemory b w) (MayLackMemory b v) w u
-            (λ i lacks. ⊎_elim (λ waits. inl (waited-before b v w i g.knows waits)) (λ revokes. inr revokes) lacks) tells.0),
-        tells.1 ∙ learns.sightings,
-        λ knows. tells.2 (refers-later b v w index g.knows knows),
-      )
-
-  begun-at : (v : Knowledge) → HoldsJust v (index ∷ []) → KnowsPast b v index → Running b index v (record { view = v; at = index; next = 0; frames = [] })
-  begun-at v holds past = record {
-    walks = record { path = tt; ready = λ m other below _. absurd (omega arith); short = omega arith; holds = holds; past = past };
+  begun-at : (v w : Knowledge) → TakesPlaced b index v w → Running b index v (record { view = w; at = index; next = 0; frames = [] })
+  begun-at v w took = record {
+    walks = record { path = tt; ready = λ m other below _. absurd (omega arith); short = omega arith; holds = took.holds; past = took.past };
     for = refl;
-    goes = goes-same NoPlace v v refl;
-    sightings = refl;
+    goes = took.goes;
+    sightings = took.sightings;
     waits = λ i has. absurd has;
   }
 
-  pub begun : (v : Knowledge) (fs : List Frame) → HoldsJust v (index ∷ []) → KnowsPast b v index → fs ≡ [] → Running b index v (record { view = v; at = index; next = 0; frames = fs })
-  begun v fs holds past is = subst (λ (gs : List Frame). Running b index v (record { view = v; at = index; next = 0; frames = gs })) (sym is) (begun-at v holds past)
+  pub begun : (v w : Knowledge) (fs : List Frame) → TakesPlaced b index v w → fs ≡ [] → Running b index v (record { view = w; at = index; next = 0; frames = fs })
+  begun v w fs took is = subst (λ (gs : List Frame). Running b index v (record { view = w; at = index; next = 0; frames = gs })) (sym is) (begun-at v w took)
 
   pub round : (v : Knowledge) (s t : Spot) → Running b index v s → GoesFurther b s t → Running b index v t
   round v s t r o = record {
@@ -130,9 +94,16 @@ module _ (b : Batch) (index : ℕ) where
     waits = λ i has. ⊎_elim (λ old. r.waits i old) (λ new. waited-before b v s.view i r.goes.knows new) (o.waits i has);
   }
 
-  pub over : (v : Knowledge) (s t : Spot) → Running b index v s → Ended s t → TriedMeans b index v Done t.view
-  over v s t r e =
-      (goes-then NoPlace v s.view t.view r.goes e.goes, e.sightings ∙ r.sightings, subst (λ (i : ℕ). In i t.view.known) r.for e.known)
+  -- the place at hand is done, and none waits for it
+  pub over : (v w : Knowledge) (s : Spot) → Running b index v s → Finishes s.at s.view w → s.frames ≡ [] → TriedMeans b index v Done w
+  over v w s r f none =
+      let here : s.at ≡ index = sym (ap (λ (fs : List Frame). bottom fs s.at) none) ∙ r.for in
+      (goes-then NoPlace v s.view w r.goes f.goes, f.sightings ∙ r.sightings, subst (λ (i : ℕ). In i w.known) here f.known)
+
+  pub over-idle : (v w : Knowledge) (s : Spot) → Running b index v s → Finishes s.at s.view w → s.frames ≡ [] → HoldsNone w
+  over-idle v w s r f none i m js holds =
+      let free = frees s.view w s.at [] (subst (λ (fs : List Frame). HoldsJust s.view (s.at ∷ waiting fs)) none r.walks.holds) (λ i has. absurd has) f.others f.free in
+      free.only i m js holds
 
   -- what is given back is the place at hand, and those that wait
   given : (v : Knowledge) (s t : Spot) (P : ℕ → Type 0) → Running b index v s → t.at ≡ s.at → t.frames ≡ s.frames → ((i : ℕ) → HasToWait b v i → P i) → P s.at
@@ -188,3 +159,12 @@ module _ (b : Batch) (index : ℕ) where
         l.sightings ∙ m.sightings ∙ r.sightings,
         λ knows. revoking v s r m.lacks knows,
       )
+
+-- what a fill did, by whether memory ran out
+pub filled-all : {A E : Type 0} (b : Batch) (i n m k : ℕ) (v w : Knowledge) (r : Result A E) → is_err r ≡ false → FillMeans b i v r w → FillCounts n m r k → Finishes i v w × (k ≡ counted_more m n)
+filled-all b i n m k v w (Ok x) is tells counts = (tells, counts)
+filled-all b i n m k v w (Err e) is tells counts = absurd (true≢false is)
+
+pub filled-none : {A E : Type 0} (b : Batch) (i n m k : ℕ) (v w : Knowledge) (r : Result A E) → is_err r ≡ true → FillMeans b i v r w → FillCounts n m r k → OnlyLearns v w × IsRevocation b i × (k ≡ m)
+filled-none b i n m k v w (Ok x) is tells counts = absurd (true≢false (sym is))
+filled-none b i n m k v w (Err e) is tells counts = (tells.0, tells.1, counts)

@@ -5,7 +5,7 @@ use Rattle.bohm_core_base.specs.Batch.{Batch}
 use Rattle.filling_base.specs.declared.placer.Advanced.{Advanced}
 use Rattle.filling_base.specs.declared.placer.Advanced.TheVariants.{Next, End, NoMemory}
 
--- it placed the next place, or had placed all, or memory was refused, and then it has placed what it had
+-- it placed the next place, or had placed all, or memory ran out, and then it has placed what it had
 abbrev pub Advances : Batch → ℕ → Advanced → ℕ → Type 0
 Advances batch front (Next place) after = (front < batch.size) × (place ≡ batch.first + front) × (after ≡ suc front)
 Advances batch front End after = (front ≡ batch.size) × (after ≡ front)

@@ -1,11 +1,11 @@
 -- The outcome of a place that is asked for.
-use Rattle.std.specs.Prelude.{◌≡◌, ◌⊎◌, ℕ, ◌<◌, ◌≤◌, ◌+◌, Bool, true, [], ◌∷◌, ◌++◌, length, Result, Ok, Err, List, false}
+use Rattle.std.specs.Prelude.{◌≡◌, ◌⊎◌, ℕ, ◌<◌, ◌≤◌, ◌+◌, true, [], ◌∷◌, ◌++◌, length, Result, Ok, Err, List, false}
 use Rattle.bohm_core_base.specs.Batch.{Batch}
 use Rattle.words.specs.declared.knowledge.Knowledge.{Knowledge}
-use Rattle.words.specs.Views.{In, IsSettled, KnowsFront, KnowsPast, KnowsReferences}
+use Rattle.words.specs.Views.{HoldsNone, In, IsSettled, KnowsFront, KnowsPast, KnowsReferences}
 use Rattle.filling_base.specs.declared.run.Tried.{Tried}
 use Rattle.filling_base.specs.declared.run.Tried.TheVariants.{Done, Busy, NotPlaced, NoMemory}
-use Rattle.filling_base.specs.Extending.{Finishes, Extends, NoPlace, OnlyLearns}
+use Rattle.filling_base.specs.Extending.{Finishes, Extends, HoldsJust, NoPlace, OnlyLearns}
 use Rattle.filling_base.specs.References.{IsRevocation}
 
 -- what the pass knows says that the place is done
@@ -53,13 +53,6 @@ pub record PlacedMeans (batch : Batch) (view after : Knowledge) : Type 0 where
 abbrev pub UnplacedMeans : Batch → Knowledge → Knowledge → Type 0
 UnplacedMeans batch view after = (last : ℕ) × (partition : ℕ) × (last + 1 ≡ batch.size) × MeetsUnplaced batch last partition view after
 
--- whether the answer is that a partition hasn't placed the place
-abbrev pub is_unplaced : Tried → Bool
-is_unplaced Done = false
-is_unplaced (Busy other) = false
-is_unplaced (NotPlaced partition) = true
-is_unplaced NoMemory = false
-
 -- the outcome of a place that was asked for. It is known done, and none was given back; or another was held, and what was given back had to
 -- wait; or a partition hasn't placed it; or memory ran out, which it isn't where the place has no revocation and all its references were
 -- known done, and what was given back had to wait or may revoke
@@ -70,6 +63,20 @@ TriedMeans batch index view (Busy other) after = Extends (HasToWait batch view) 
 TriedMeans batch index view NoMemory after =
     Extends (MayLackMemory batch view) view after × (after.sightings ≡ view.sightings)
     × (KnowsReferences batch view index → IsRevocation batch index)
+
+-- it claimed the place, and holds no other; every partition has placed it, and nothing said before that it is done
+pub record TakesPlaced (batch : Batch) (index : ℕ) (view after : Knowledge) : Type 0 where
+  pub goes : Extends NoPlace view after
+  pub sightings : after.sightings ≡ view.sightings
+  pub holds : HoldsJust after (index ∷ [])
+  pub past : KnowsPast batch after index
+  pub untold : ¬ (IsKnownDone batch view index)
+
+-- it holds no place, and the outcome is this: that the place is done, if what the pass knew says so
+pub record StopsWith (batch : Batch) (index : ℕ) (view : Knowledge) (answer : Tried) (after : Knowledge) : Type 0 where
+  pub tells : TriedMeans batch index view answer after
+  pub idle : HoldsNone after
+  pub told : IsKnownDone batch view index → answer ≡ Done
 
 -- the outcome of filling a place: it is finished; or memory ran out, which only a revocation's may be, and nothing was stored
 abbrev pub FillMeans : {A E : Type 0} → Batch → ℕ → Knowledge → Result A E → Knowledge → Type 0

@@ -6,7 +6,7 @@ use Rattle.words.specs.Views.{In, KnowsPast}
 use Rattle.filling_base.specs.declared.walk.Frame.{Frame}
 use Rattle.filling_base.specs.declared.walk.Walk.{Walk}
 use Rattle.filling_base.specs.declared.walk.Step.{Step}
-use Rattle.filling_base.specs.declared.walk.Step.TheVariants.{Went, Over, Busy, NoMemory}
+use Rattle.filling_base.specs.declared.walk.Step.TheVariants.{Went, Busy, NoMemory}
 use Rattle.filling_base.specs.Extending.{Extends, HoldsJust, NoPlace}
 use Rattle.filling_base.specs.References.{reference}
 use Rattle.filling_base.specs.Tries.{HasToWait, IsKnownDone, MayLackMemory}
@@ -91,13 +91,6 @@ pub record GoesFurther (batch : Batch) (spot next : Spot) : Type 0 where
   pub less : left batch next < left batch spot
   pub waits : (index : ℕ) → In index (waiting next.frames) → In index (waiting spot.frames) ⊎ HasToWait batch spot.view index
 
--- the place asked for is done, and none is held
-pub record Ended (spot next : Spot) : Type 0 where
-  pub goes : Extends NoPlace spot.view next.view
-  pub sightings : next.view.sightings ≡ spot.view.sightings
-  pub known : In (asked_place spot) next.view.known
-  pub holds : HoldsJust next.view []
-
 -- the current place and those that wait are the same, and nothing was claimed, given back or stored
 pub record Stays (batch : Batch) (spot next : Spot) : Type 0 where
   pub walks : IsWalk batch next
@@ -123,7 +116,6 @@ pub record LackedMemory (batch : Batch) (spot next : Spot) : Type 0 where
 
 abbrev pub StepDone : Batch → Spot → Step → Spot → Type 0
 StepDone batch spot Went next = GoesFurther batch spot next
-StepDone batch spot Over next = Ended spot next
 StepDone batch spot (Busy other) next = MetHeld other batch spot next
 StepDone batch spot NoMemory next = LackedMemory batch spot next
 

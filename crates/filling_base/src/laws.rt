@@ -7,7 +7,7 @@ ghost use Rattle.words.specs.Passes.{PassState};
 ghost use Rattle.filling_base.specs.Counting.{CountsBodies, counted_more};
 ghost use Rattle.filling_base.specs.Extending.{Finishes, OnlyLearns};
 
-/// A pass that finds a place done only learns, and so does one whose events, kept lists and sightings stand and that still knows
+/// A pass that finds a place done only learns, and so does one whose events, kept lists and sightings are unchanged and that still knows
 /// what it knew, of fronts too. Who only learns, and then only learns, has only learnt, and holds what it held. Who only learns and then
 /// finishes a place has finished it.
 pub fn learning_comes_before_storing()

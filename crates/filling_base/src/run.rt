@@ -1,11 +1,12 @@
 //! Runs a place that is asked for.
 
-ghost use Rattle.std.specs.Prelude.{◌≡◌, ◌<◌, [], ◌∷◌, false};
+ghost use Rattle.std.specs.Prelude.{◌≡◌, ◌<◌};
+ghost use Rattle.std.specs.Option.{MatchOption};
 ghost use Rattle.words.specs.Passes.{IsPassOf};
-ghost use Rattle.words.specs.Views.{KnowsPast};
+ghost use Rattle.words.specs.Views.{HoldsNone};
 ghost use Rattle.filling_base.specs.Counting.{CountsBodies};
-ghost use Rattle.filling_base.specs.Extending.{HoldsJust, IsSamePass};
-ghost use Rattle.filling_base.specs.Tries.{IsKnownDone, TriedMeans, is_unplaced};
+ghost use Rattle.filling_base.specs.Extending.{IsSamePass};
+ghost use Rattle.filling_base.specs.Tries.{IsKnownDone, StopsWith, TakesPlaced, TriedMeans};
 
 use crate::batch::Batch;
 use crate::fills::Fills;
@@ -26,46 +27,27 @@ pub enum Tried {
 }
 
 impl<K: Fills> Batch<K> {
-    // Runs a place that the pass holds, and no other, with nothing stored.
-    fn run(&self, holding: Holding, index: usize) -> (Pass, Tried)
-        requires same_table { IsPassOf self.now holding }
+    // Claims the place for a pass that holds none, if it is free and every partition has placed it. Else returns what the call found.
+    fn claim_placed(&self, holding: &mut Holding, index: usize) -> Option<Tried>
+        requires same_table { IsPassOf self.now holding.old }
         requires within { index < (K.batch self.now.key).size }
-        requires held { HoldsJust holding.view (index ∷ []) }
-        requires past { KnowsPast (K.batch self.now.key) holding.view index }
-        ensures placed { is_unplaced result.1 ≡ false }
-        ensures same { IsSamePass holding result.0 }
-        ensures tells { TriedMeans (K.batch self.now.key) index holding.view result.1 result.0.view }
-        ensures bodies { CountsBodies (K.runs self.now.key) holding result.0 }
+        requires idle { HoldsNone holding.old.view }
+        ensures same { IsSamePass holding.old holding.new }
+        ensures tells { MatchOption result (TakesPlaced (K.batch self.now.key) index holding.old.view holding.new.view)
+            (λ answer. StopsWith (K.batch self.now.key) index holding.old.view answer holding.new.view) }
+        ensures bodies { CountsBodies (K.runs self.now.key) holding.old holding.new }
     {
-        let mut walk = Walk {
-            holding,
-            at: index,
-            next: 0,
-            stack: Vec::new(self.alloc),
-        };
-        'steps: loop {
-            let step = if walk.next < self.key.references_length(walk.at) {
-                let next = walk.next + 1;
-                self.step(&mut walk, next)
-            } else {
-                let (left, step) = self.leave(walk);
-                walk = left;
-                step
-            };
-            match step {
-                Step::Went => {}
-                Step::Over => {
-                    let Walk {
-                        holding,
-                        at: _,
-                        next: _,
-                        stack: _,
-                    } = walk;
-                    return (holding.end(), Tried::Done);
-                }
-                Step::Busy(other) => return (self.release(walk), Tried::Busy(other)),
-                Step::NoMemory => return (self.release(walk), Tried::NoMemory),
-            }
+        match self.words.look(holding, index) {
+            Seen::Done => Some(Tried::Done),
+            Seen::Held => Some(Tried::Busy(index)),
+            Seen::Free => match self.unplaced(holding, index) {
+                Some(partition) => Some(Tried::NotPlaced(partition)),
+                None => match self.words.claim(holding, index) {
+                    Claimed::Done => Some(Tried::Done),
+                    Claimed::Held => Some(Tried::Busy(index)),
+                    Claimed::Won => None,
+                },
+            },
         }
     }
 
@@ -85,17 +67,36 @@ impl<K: Fills> Batch<K> {
         ensures told { IsKnownDone (K.batch self.now.key) pass.view index → result.1 ≡ Tried.Done }
     {
         let mut holding = Holding::begin(pass);
-        match self.words.look(&mut holding, index) {
-            Seen::Done => (holding.end(), Tried::Done),
-            Seen::Held => (holding.end(), Tried::Busy(index)),
-            Seen::Free => match self.unplaced(&mut holding, index) {
-                Some(partition) => (holding.end(), Tried::NotPlaced(partition)),
-                None => match self.words.claim(&mut holding, index) {
-                    Claimed::Done => (holding.end(), Tried::Done),
-                    Claimed::Held => (holding.end(), Tried::Busy(index)),
-                    Claimed::Won => self.run(holding, index),
-                },
-            },
+        if let Some(answer) = self.claim_placed(&mut holding, index) {
+            return (holding.end(), answer);
+        }
+        let mut walk = Walk {
+            holding,
+            at: index,
+            next: 0,
+            stack: Vec::new(self.alloc),
+        };
+        'steps: loop {
+            if walk.next < self.key.references_length(walk.at) {
+                let next = walk.next + 1;
+                match self.step(&mut walk, next) {
+                    Step::Went => continue,
+                    Step::Busy(other) => return (self.release(walk), Tried::Busy(other)),
+                    Step::NoMemory => return (self.release(walk), Tried::NoMemory),
+                }
+            }
+            let (holding, filled) = self.key.fill(&self.words, walk.holding, walk.at);
+            walk.holding = holding;
+            if filled.is_err() {
+                return (self.release(walk), Tried::NoMemory);
+            }
+            match walk.stack.pop() {
+                Some(frame) => {
+                    walk.at = frame.index;
+                    walk.next = frame.next;
+                }
+                None => return (walk.holding.end(), Tried::Done),
+            }
         }
     }
 }

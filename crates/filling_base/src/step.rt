@@ -1,6 +1,6 @@
 //! One step of a walk.
 
-ghost use Rattle.std.specs.Prelude.{◌≡◌, ◌<◌, ◌≤◌, suc, length};
+ghost use Rattle.std.specs.Prelude.{◌≡◌, ◌<◌, suc, length};
 ghost use Rattle.bohm_core_base.specs.Batch.{reference_words};
 ghost use Rattle.words.specs.Passes.{IsPassOf};
 ghost use Rattle.filling_base.specs.Counting.{CountsBodies};
@@ -50,31 +50,6 @@ impl<K: Fills> Batch<K> {
                 walk.next = next;
                 Step::Went
             }
-        }
-    }
-
-    // Fills the current place, and goes back to the one that waits for it.
-    pub(crate) fn leave(&self, mut walk: Walk) -> (Walk, Step)
-        requires same_table { IsPassOf self.now walk.holding }
-        requires within { asked_place (spot walk) < (K.batch self.now.key).size }
-        requires walks { IsWalk (K.batch self.now.key) (spot walk) }
-        requires all { length (reference_words (K.batch self.now.key) walk.at) ≤ walk.next }
-        ensures same { IsSamePass walk.holding result.0.holding }
-        ensures stepped { StepDone (K.batch self.now.key) (spot walk) result.1 (spot result.0) }
-        ensures bodies { CountsBodies (K.runs self.now.key) walk.holding result.0.holding }
-    {
-        let (holding, filled) = self.key.fill(&self.words, walk.holding, walk.at);
-        walk.holding = holding;
-        match filled {
-            Err(_) => (walk, Step::NoMemory),
-            Ok(()) => match walk.stack.pop() {
-                None => (walk, Step::Over),
-                Some(frame) => {
-                    walk.at = frame.index;
-                    walk.next = frame.next;
-                    (walk, Step::Went)
-                }
-            },
         }
     }
 

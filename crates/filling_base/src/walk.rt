@@ -10,6 +10,7 @@ pub(crate) struct Frame {
 }
 
 /// The current place, how many of its references are known done, and the places that wait, the one asked for at the bottom.
+#[derive(Drop)]
 pub(crate) struct Walk {
     pub(crate) holding: Holding,
     pub(crate) at: usize,
@@ -22,8 +23,6 @@ pub(crate) struct Walk {
 pub(crate) enum Step {
     /// The walk goes on.
     Went,
-    /// The place asked for is done.
-    Over,
     /// The place of this index was held by another pass.
     Busy(usize),
     /// memory ran out.

@@ -1,5 +1,5 @@
 -- A pass that goes on, and what it knows of the places.
-use Rattle.std.proofs.Common.{◌≡◌, ◌⊎◌, ◌<◌, ◌++◌, ℕ, Bool, true, false, List, [], ◌∷◌, length, refl, subst, sym, ◌∙◌, arith, inl, inr}
+use Rattle.std.proofs.Common.{◌≡◌, ◌≢◌, ◌⊎◌, ◌<◌, ◌≤◌, ◌+◌, ◌++◌, ℕ, Bool, true, false, List, [], ◌∷◌, length, refl, subst, sym, ◌∙◌, arith, inl, inr}
 use Rattle.words.specs.declared.knowledge.Knowledge.{Knowledge}
 use Rattle.words.specs.Passes.{PassState, cut_first, joined_pass}
 use Rattle.words.specs.Views.{In, KeepsFronts}
@@ -10,7 +10,7 @@ use Rattle.filling_base.specs.Extending.{IsSamePass, OnlyLearns}
 use Rattle.filling_base.specs.Tries.{PlacedMeans, TriedMeans, UnplacedMeans}
 use Rattle.workers.specs.declared.work.Worked.{Worked}
 use Rattle.workers.specs.declared.work.Worked.TheVariants.{Done as WorkedDone, NoMemory as WorkedNoMemory, NotStarted}
-use Rattle.workers.specs.Working.{AreLeft, GoesOn, KnowsAll, worse}
+use Rattle.workers.specs.Working.{AreLeft, GoesOn, HasAsked, IsMissed, KnowsAll, asked_done, asked_missed, worse}
 
 pub stays : (pass : PassState) → GoesOn pass pass
 stays pass = record { table = refl; number = refl; knows = λ index known. known; fronts = ((λ placed. placed), (λ partition count has. has)) }
@@ -153,6 +153,20 @@ asked_on batch index pass after tried same tells =
       fronts = tells_fronts batch index pass.view after.view tried tells;
     }
 
+-- the first of the rest was asked for and is done, or was missed
+pub next_done : (batch : Batch) (pass before after : PassState) (index : ℕ) (rest now then : List ℕ) → now ≡ index ∷ then
+    → HasAsked batch pass rest before now → TriedMeans batch index before.view Done after.view → HasAsked batch pass rest after then
+next_done batch pass before after index rest now then is asked tells =
+    let all : HasAsked batch pass rest before (index ∷ then) = rw is at asked in
+    asked_done before after index then all tells
+
+pub next_missed : (batch : Batch) (pass before after : PassState) (index : ℕ) (rest now then turned : List ℕ) → now ≡ index ∷ then
+    → turned ≡ then ++ index ∷ [] → HasAsked batch pass rest before now → IsMissed batch index before.view after.view
+    → HasAsked batch pass rest after turned
+next_missed batch pass before after index rest now then turned is turns asked missed =
+    let all : HasAsked batch pass rest before (index ∷ then) = rw is at asked in
+    rw turns (asked_missed before after index then all missed)
+
 -- what came of two workers is that all is done only if both resulted in that
 pub worse_done : (one other : Worked) → worse one other ≡ WorkedDone → one ≡ WorkedDone
 worse_done NotStarted other is = absurd (cc is)
@@ -160,6 +174,19 @@ worse_done WorkedNoMemory NotStarted is = absurd (cc is)
 worse_done WorkedNoMemory WorkedNoMemory is = absurd (cc is)
 worse_done WorkedNoMemory WorkedDone is = absurd (cc is)
 worse_done WorkedDone other is = refl
+
+-- a worker that started, where all others started too
+pub worse_started : (one other : Worked) → one ≢ NotStarted → other ≡ WorkedDone → worse one other ≢ NotStarted
+worse_started NotStarted other started all is = started refl
+worse_started WorkedNoMemory NotStarted started all is = absurd (cc all)
+worse_started WorkedNoMemory WorkedNoMemory started all is = absurd (cc all)
+worse_started WorkedNoMemory WorkedDone started all is = absurd (cc is)
+worse_started WorkedDone other started all is = absurd (cc (all, is))
+
+-- no thread was started for the only worker
+pub no_other : {A : Type 0} (xs : List A) (count : ℕ) → length xs + 1 ≡ count → count ≤ 1 → xs ≡ []
+no_other [] count each few = refl
+no_other (x ∷ xs) count each few = absurd (omega (arith, each, few))
 
 -- a pass that only learnt goes on, and so does one that looked whether all is placed
 learnt_on : (pass after : PassState) → IsSamePass pass after → OnlyLearns pass.view after.view → GoesOn pass after

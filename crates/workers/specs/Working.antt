@@ -1,7 +1,7 @@
 -- What workers know of a batch. Each execution thread goes over the places of the batch by itself: J. M. Faleiro and
 -- D. J. Abadi, "Rethinking Serializable Multiversion Concurrency Control", PVLDB 8 (2015), section 3; that a pass carries what
 -- a thread knows is this project's own.
-use Rattle.std.specs.Prelude.{◌≡◌, ◌⊎◌, ◌<◌, ℕ, List, Result, Ok, Err}
+use Rattle.std.specs.Prelude.{◌≡◌, ◌⊎◌, ◌<◌, ◌++◌, ℕ, List, [], ◌∷◌, Result, Ok, Err}
 use Rattle.bohm_core_base.specs.Batch.{Batch}
 use Rattle.words.specs.declared.knowledge.Knowledge.{Knowledge}
 use Rattle.filling_base.specs.declared.run.Tried.TheVariants as tried
@@ -23,9 +23,20 @@ IsMissed batch index view after =
     ((other : ℕ) × TriedMeans batch index view (tried.Busy other) after)
     ⊎ ((partition : ℕ) × TriedMeans batch index view (tried.NotPlaced partition) after)
 
--- and where it stops: it didn't ask for the place, or memory was refused
-abbrev pub IsStopped : Batch → ℕ → PassState → PassState → Type 0
-IsStopped batch index pass after = (after ≡ pass) ⊎ TriedMeans batch index pass.view tried.NoMemory after.view
+-- the pass asked for places of the rest in order: each that was done left the rest, and each that was missed went to its end
+pub data HasAsked (batch : Batch) (pass : PassState) (rest : List ℕ) : PassState → List ℕ → Type 0 where
+  asked_none : HasAsked batch pass rest pass rest
+  asked_done : (before after : PassState) (index : ℕ) (left : List ℕ) → HasAsked batch pass rest before (index ∷ left)
+      → TriedMeans batch index before.view tried.Done after.view → HasAsked batch pass rest after left
+  asked_missed : (before after : PassState) (index : ℕ) (left : List ℕ) → HasAsked batch pass rest before (index ∷ left)
+      → IsMissed batch index before.view after.view → HasAsked batch pass rest after (left ++ index ∷ [])
+
+-- so it did where it stops, before a next place or since memory ran out for that
+abbrev pub IsStopped : Batch → PassState → List ℕ → PassState → List ℕ → Type 0
+IsStopped batch pass rest after left =
+    HasAsked batch pass rest after left
+    ⊎ ((before : PassState) × (index : ℕ) × HasAsked batch pass rest before (index ∷ left)
+    × TriedMeans batch index before.view tried.NoMemory after.view)
 
 -- the pass knows each of this many places done
 abbrev pub KnowsAll : ℕ → Knowledge → Type 0

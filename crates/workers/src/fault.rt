@@ -9,7 +9,7 @@ use thiserror::Error;
 /// Why a batch was not run.
 #[derive(Clone, Copy, Debug, PartialEq, Eq, Error)]
 pub enum RunFault {
-    /// Memory was refused.
+    /// Memory ran out.
     #[error("out of memory")]
     NoMemory,
     /// A worker's thread could not be started.

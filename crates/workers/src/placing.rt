@@ -10,7 +10,7 @@ use std::alloc::{AllocError, Global};
 use std::collections::VecDeque;
 use std::sync::atomic::Ordering;
 
-/// Places one place more, if there is one. Where memory is refused it stops the workers, and returns false.
+/// Places one place more, if there is one. Where memory runs out it stops the workers, and returns false.
 fn place_one<K: Fills, P: BatchPlacer<K>, G: Gate>(
     shared: &Shared<'_, K, G>,
     placer: &mut P,
@@ -54,7 +54,7 @@ fn place_round<K: Fills, P: BatchPlacer<K>, G: Gate>(
     true
 }
 
-/// Places the whole batch for these partitions, one place for each in turn, unless the workers are stopped: then it returns false.
+/// Places the whole batch for these partitions, one place for each by turns, unless the workers are stopped: then it returns false.
 pub(crate) fn place_all<K: Fills, P: BatchPlacer<K>, G: Gate>(
     shared: &Shared<'_, K, G>,
     placers: &mut [P],

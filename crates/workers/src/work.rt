@@ -1,6 +1,6 @@
 //! Several workers.
 
-ghost use Rattle.std.specs.Prelude.{◌≡◌, ◌≢◌, ◌<◌, ◌≤◌, ◌+◌, ◌^◌, [], All, IfOk, IfSome, length, vec_capacity};
+ghost use Rattle.std.specs.Prelude.{◌≡◌, ◌≢◌, ◌<◌, ◌≤◌, ◌+◌, ◌^◌, [], All, IfOk, length, vec_capacity};
 ghost use Rattle.words.specs.Passes.{IsPassOf};
 ghost use Rattle.workers.specs.Placing.{HavePlaced, HaveDealt};
 ghost use Rattle.workers.specs.Working.{GoesOn, KnowsAll, came_of, worse};
@@ -8,8 +8,8 @@ ghost use Rattle.workers.specs.Working.{GoesOn, KnowsAll, came_of, worse};
 use crate::fault::RunFault;
 use crate::gate::Gate;
 use crate::placing::{deal, place_all};
+use crate::rounds::{all_places, go_round, look};
 use crate::shared::Shared;
-use crate::sweep::{Swept, all_places, sweep};
 use filling_base::{Batch, BatchPlacer, Fills};
 use model_base::Place;
 use std::alloc::{AllocError, Global};
@@ -24,7 +24,7 @@ use words::Pass;
 pub enum Worked {
     /// All its places are done.
     Done,
-    /// Memory was refused.
+    /// Memory ran out.
     NoMemory,
     /// A worker's thread could not be started.
     NotStarted,
@@ -51,7 +51,8 @@ fn first_of(worker: usize, workers: usize, size: usize) -> usize
     (worker as u128 * size as u128 / workers as u128) as usize
 }
 
-/// One worker: it places its partitions, and then goes round over the places, from this one on. Where memory is refused it stops the others.
+/// One worker: it places its partitions, and then goes round over the places, from this one on, until each is done or the workers are
+/// stopped. After a round in which none was done it lets other threads run. Where memory runs out it stops the others.
 fn work<K: Fills, P: BatchPlacer<K>, G: Gate, R: Wait>(
     rt: &R,
     shared: &Shared<'_, K, G>,
@@ -66,18 +67,30 @@ fn work<K: Fills, P: BatchPlacer<K>, G: Gate, R: Wait>(
     ensures all { result.1 ≡ Worked.Done → KnowsAll (K.batch shared.now.key).size result.0.view }
     ensures started { result.1 ≢ Worked.NotStarted }
 {
-    let Ok(rest) = all_places(shared.alloc, first, shared.places()) else {
+    let Ok(mut rest) = all_places(shared.alloc, first, shared.places()) else {
         shared.stop.store(true, Ordering::SeqCst);
         return (pass, Worked::NoMemory);
     };
     if !place_all(shared, &mut placers) {
         return (pass, Worked::NoMemory);
     }
-    let (pass, swept) = sweep(rt, shared, pass, rest);
-    match swept {
-        Swept::All => (pass, Worked::Done),
-        Swept::Stopped => (pass, Worked::NoMemory),
+    let mut last = pass;
+    for _ in rt.forever() {
+        let count = rest.len();
+        if count == 0 {
+            return (last, Worked::Done);
+        }
+        let looked = look(shared.batch, last);
+        let (next, is_over) = go_round(shared, looked, &mut rest);
+        last = next;
+        if !is_over {
+            return (last, Worked::NoMemory);
+        }
+        if rest.len() == count {
+            thread::yield_now();
+        }
     }
+    unreachable!()
 }
 
 /// The outcome of two workers.
@@ -105,40 +118,8 @@ impl<'a, K: Fills> Promise<(Pass, Worked)> for OfBatch<'a, K> {
     ghost kept_by = { λ promise ended. IsPassOf promise.0.now ended.0 };
 }
 
-/// Starts a worker on a thread of its own. None if the thread can't be started.
-fn start<
-    's,
-    E,
-    K: Fills + Sync,
-    P: BatchPlacer<K> + Send + 's,
-    G: Gate + Sync,
-    R: Threads + Wait + Sync,
->(
-    rt: &'s R,
-    scope: &Scope<'s, E>,
-    shared: &'s Shared<'s, K, G>,
-    pass: Pass,
-    placers: Vec<P>,
-    first: usize,
-) -> Option<PromisedHandle<(Pass, Worked), OfBatch<'s, K>>>
-    requires same_table { IsPassOf shared.now pass }
-    requires placers { HavePlaced P.is_of P.front shared.now 0 placers.items }
-    requires first { first ≤ (K.batch shared.now.key).size }
-    ensures { IfSome result (λ thread. thread.promise.0.now ≡ shared.now) }
-{
-    let started = scope.spawn_with(
-        OfBatch(shared.batch),
-        move || -> (Pass, Worked)
-            requires { IsPassOf shared.now pass × HavePlaced P.is_of P.front shared.now 0 placers.items
-                × (first ≤ (K.batch shared.now.key).size) }
-            ensures { IsPassOf shared.entry.now result.0 }
-        { work(rt, shared, pass, placers, first) },
-    );
-    started.ok()
-}
-
-/// Starts each of these workers but the lowest, the last one first. If a thread can't be started, all are stopped, and `NotStarted` is
-/// returned. There is room for the threads.
+/// Starts each of these workers but the lowest on a thread of its own, the last one first. If a thread can't be started, all are stopped,
+/// and `NotStarted` is returned. There is room for the threads.
 fn start_others<
     's,
     E,
@@ -175,7 +156,14 @@ fn start_others<
         let first = first_of(hands.len(), count, shared.places());
         let (kept, other) = shared.batch.split(rest);
         rest = kept;
-        let Some(thread) = start(rt, scope, shared, other, placers, first) else {
+        let Ok(thread) = scope.spawn_with(
+            OfBatch(shared.batch),
+            move || -> (Pass, Worked)
+                requires { IsPassOf shared.now other × HavePlaced P.is_of P.front shared.now 0 placers.items
+                    × (first ≤ (K.batch shared.now.key).size) }
+                ensures { IsPassOf shared.entry.now result.0 }
+            { work(rt, shared, other, placers, first) },
+        ) else {
             shared.stop.store(true, Ordering::SeqCst);
             return (rest, Worked::NotStarted);
         };
@@ -208,40 +196,6 @@ fn join_others<'a, K: Fills, G, R: Threads>(
     (known, worst)
 }
 
-/// These workers, the lowest on this thread and each other one on a thread of its own. If a thread can't be started, all are stopped.
-fn work_all<
-    's,
-    E,
-    K: Fills + Sync,
-    P: BatchPlacer<K> + Send + 's,
-    G: Gate + Sync,
-    R: Threads + Wait + Sync,
->(
-    rt: &'s R,
-    scope: &Scope<'s, E>,
-    shared: &'s Shared<'s, K, G>,
-    pass: Pass,
-    mut hands: Vec<Vec<P>>,
-) -> (Pass, Worked)
-    requires same_table { IsPassOf shared.now pass }
-    requires hands { HaveDealt (λ hand. hand.items) P.is_of P.front shared.now hands.items }
-    requires some { 0 < length hands.items }
-    ensures on { GoesOn pass result.0 }
-    ensures all { result.1 ≡ Worked.Done → KnowsAll (K.batch shared.now.key).size result.0.view }
-    // The lowest worker starts no thread.
-    ensures alone { length hands.items ≤ 1 → result.1 ≢ Worked.NotStarted }
-{
-    let Ok(mut threads) = Vec::with_capacity(shared.alloc, hands.len()) else {
-        return (pass, Worked::NoMemory);
-    };
-    let (pass, started) = start_others(rt, scope, shared, pass, &mut hands, &mut threads);
-    let Some(placers) = hands.pop() else {
-        unreachable!()
-    };
-    let (pass, mine) = work(rt, shared, pass, placers, 0);
-    join_others(rt, shared, pass, both(mine, started), threads)
-}
-
 /// The placers of a batch, dealt to this many workers. An error is out of memory.
 fn hands_of<K: Fills, P: BatchPlacer<K>>(
     alloc: Global,
@@ -272,12 +226,12 @@ pub struct Workers<'a, R, G> {
 }
 
 /// Places and runs all places of a batch by these workers. The placers are those of the partitions that aren't placed whole yet; worker w
-/// of W has those whose numbers have the remainder w, and first places all of the batch for these. Then each begins with a part of the batch
-/// of its own and goes round over the places that it hasn't had done yet, until it has had each done; where another has a place available,
-/// it goes on with the next. The gate is notified of places of the log, of which the batch's first is `start`: by each worker of a place
-/// before it asks for it, and once when it is done. If a thread can't be started or memory is refused, all workers stop. No thread runs any
-/// more afterwards. The pass knows what it knew and what the workers know. `Done` says that all places are done, `NotStarted` that a thread
-/// couldn't be started. With one worker no thread is started.
+/// of W has those whose numbers have the remainder w, and first places all of the batch for these. Then each begins with a part of the
+/// batch of its own and goes round over the places that it hasn't had done yet, until it has had each done; where another has a place
+/// available, it goes on with the next. The gate is notified of places of the log, of which the batch's first is `start`: by each worker of
+/// a place before it asks for it, and once when it is done. If a thread can't be started or memory runs out, all workers stop. No thread
+/// runs any more afterwards. The pass knows what it knew and what the workers know. `Done` says that all places are done, `NotStarted` that
+/// a thread couldn't be started. With one worker no thread is started.
 pub fn run_workers<
     K: Fills + Sync,
     P: BatchPlacer<K> + Send,
@@ -298,26 +252,20 @@ pub fn run_workers<
     // One worker starts no thread.
     ensures alone { workers.now.count ≤ 1 → result.1 ≢ Worked.NotStarted }
 {
-    let Workers {
-        rt,
-        alloc,
-        gate,
-        count,
-    } = *workers;
-    let count = count.max(1);
+    let rt = workers.rt;
+    let alloc = workers.alloc;
+    let count = workers.count.max(1);
     let Ok(hands) = hands_of(alloc, batch, placers, count) else {
         return (pass, Worked::NoMemory);
     };
     let flag = AtomicBool::new(false);
-    let stop = &flag;
-    let shared = Shared {
+    let shared = &Shared {
         alloc,
         batch,
-        gate,
-        stop,
+        gate: workers.gate,
+        stop: &flag,
         start,
     };
-    let shared = &shared;
     thread::scope(
         thread::scope_env(),
         rt,
@@ -327,6 +275,17 @@ pub fn run_workers<
             ensures { GoesOn pass result.0
                 × (result.1 ≡ Worked.Done → KnowsAll (K.batch shared.entry.now.key).size result.0.view)
                 × (length hands.items ≤ 1 → result.1 ≢ Worked.NotStarted) }
-        { work_all(rt, scope, shared, pass, hands) },
+        {
+            let mut hands = hands;
+            let Ok(mut threads) = Vec::with_capacity(shared.alloc, hands.len()) else {
+                return (pass, Worked::NoMemory);
+            };
+            let (pass, started) = start_others(rt, scope, shared, pass, &mut hands, &mut threads);
+            let Some(placers) = hands.pop() else {
+                unreachable!()
+            };
+            let (pass, mine) = work(rt, shared, pass, placers, 0);
+            join_others(rt, shared, pass, both(mine, started), threads)
+        },
     )
 }

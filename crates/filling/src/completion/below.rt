@@ -1,8 +1,7 @@
 //! What a place of a batch is shown by the places below it.
 
-ghost use Rattle.std.specs.Prelude.{◌≡◌, ◌<◌};
+ghost use Rattle.std.specs.Prelude.{◌≡◌};
 ghost use Rattle.log_batch.specs.Supplied.{batch_of};
-ghost use Rattle.words.specs.Closing.{HasItsReferences};
 
 use crate::completion::batch_progress::BatchProgress;
 use evaluation::{ReadSource, was_done};
@@ -39,7 +38,7 @@ impl<'a> Model for Below<'a> {
 }
 
 impl<'a> Below<'a> {
-    ghost use Rattle.filling.specs.BatchProgress.{IsDoneTo};
+    ghost use Rattle.filling.specs.BatchProgress.{ComesNext};
 
     /// The place of an index, as a reader of what is below it.
     pub(crate) fn new(
@@ -48,9 +47,7 @@ impl<'a> Below<'a> {
         progress: &'a BatchProgress,
         index: usize,
     ) -> Self
-        requires references { HasItsReferences (batch_of batch.now) closed.now }
-        requires stands { IsDoneTo (batch_of batch.now) index progress.now }
-        requires within { index < batch.now.size }
+        requires { ComesNext (batch_of batch.now) closed.now index progress.now }
         ensures { result ≡ record { ranged = batch.now; index = index } }
     {
         let _log = batch.log();

@@ -5,9 +5,9 @@ ghost use Rattle.bohm_core_base.specs.Batch.{batch_slots};
 ghost use Rattle.bohm_core_base.specs.Serial.{serial_words};
 ghost use Rattle.log_batch.specs.Supplied.{batch_of};
 ghost use Rattle.words.specs.Layout.{optional_word};
-ghost use Rattle.words.specs.Closing.{HasItsReferences, IsSettledBy, claim_in};
+ghost use Rattle.words.specs.Closing.{IsSettledBy, claim_in};
 ghost use Rattle.filling.specs.Ends.{AreSerialEnds, NotesWord, noted_end};
-ghost use Rattle.filling.specs.BatchProgress.{HasDone, IsDoneTo, NotesEndsOfDone};
+ghost use Rattle.filling.specs.BatchProgress.{ComesNext, HasDone, IsDoneTo, NotesEndsOfDone};
 
 use crate::completion::batch_progress::BatchProgress;
 use crate::completion::ends::Ends;
@@ -62,7 +62,7 @@ fn copy_words(batch: &LogBatch<'_>, closed: &Closed, index: usize, words: &mut O
     }
 }
 
-/// Completes a place after those below it: what a closed batch has of it if it is done there, or else it is run. Its own words are put
+/// Completes a place after those below it: what a closed batch has of it if it is done there, or else it is run. Its own words are gathered
 /// together in the room that is lent. An error means out of memory.
 pub(crate) fn complete(
     alloc: Global,
@@ -72,11 +72,9 @@ pub(crate) fn complete(
     progress: &mut BatchProgress,
     words: &mut OwnWords,
 ) -> Result<(), AllocError>
-    requires within { index < batch.now.size }
+    requires next { ComesNext (batch_of batch.now) closed.now index progress.old }
     requires closed { HasDone (batch_of batch.now) closed.now }
-    requires references { HasItsReferences (batch_of batch.now) closed.now }
     requires done { NotesEndsOfDone (batch_of batch.now) closed.now progress.old.ends }
-    requires stands { IsDoneTo (batch_of batch.now) index progress.old }
     ensures done { OnOk result (NotesEndsOfDone (batch_of batch.now) closed.now progress.new.ends) }
     ensures stands { OnOk result (IsDoneTo (batch_of batch.now) (suc index) progress.new) }
 {

@@ -1,15 +1,13 @@
 //! A place of a batch run after those below it.
 
-ghost use Rattle.std.specs.Prelude.{◌≡◌, ◌==◌, ◌<◌, ◌+◌, ℕ, suc, true, IfOk, OnOk, Some, length, slice_get};
-ghost use Rattle.std.specs.List.{list_any};
+ghost use Rattle.std.specs.Prelude.{◌≡◌, ◌<◌, ◌+◌, ℕ, suc, true, IfOk, OnOk, Some, slice_get};
 ghost use Rattle.model_base.specs.declared.deed.Grant.{Grant};
 ghost use Rattle.model_base.specs.Ranks.{rank};
 ghost use Rattle.bohm_core_base.specs.Batch.{batch_slots, was_done};
 ghost use Rattle.bohm_core_base.specs.Serial.{serial_ends, serial_words};
 ghost use Rattle.log_batch.specs.Supplied.{batch_of};
-ghost use Rattle.words.specs.Closing.{HasItsReferences};
-ghost use Rattle.filling.specs.Ends.{AreSerialEnds, KeepsNoted, NotesEndsOf, noted_end};
-ghost use Rattle.filling.specs.BatchProgress.{IsDoneTo};
+ghost use Rattle.filling.specs.Ends.{AreEndedBy, AreSerialEnds, KeepsNoted, NotesEndsOf, noted_end};
+ghost use Rattle.filling.specs.BatchProgress.{ComesNext, IsDoneTo};
 
 use crate::completion::batch_progress::BatchProgress;
 use crate::completion::below::Below;
@@ -30,9 +28,7 @@ fn judge_words(
     index: usize,
     words: &mut OwnWords,
 )
-    requires within { index < batch.now.size }
-    requires references { HasItsReferences (batch_of batch.now) closed.now }
-    requires stands { IsDoneTo (batch_of batch.now) index progress.now }
+    requires next { ComesNext (batch_of batch.now) closed.now index progress.now }
     ensures { words.new ≡ serial_words (batch_of batch.now) index }
 {
     let place = Below::new(batch, closed, progress, index);
@@ -47,12 +43,9 @@ fn judged_ends(
     progress: &BatchProgress,
     index: usize,
 ) -> Result<Vec<RecordName>, AllocError>
-    requires within { index < batch.now.size }
-    requires references { HasItsReferences (batch_of batch.now) closed.now }
-    requires stands { IsDoneTo (batch_of batch.now) index progress.now }
+    requires next { ComesNext (batch_of batch.now) closed.now index progress.now }
     requires done { was_done (serial_words (batch_of batch.now) index) ≡ true }
-    ensures { IfOk result (λ names. (slot : ℕ) (grant : Grant) → slice_get (batch_slots (batch_of batch.now)) slot ≡ Some grant
-        → list_any (λ name. name == rank grant) names.items ≡ serial_ends (batch_of batch.now) index slot) }
+    ensures { IfOk result (λ names. AreEndedBy (batch_of batch.now) index names.items) }
 {
     let place = Below::new(batch, closed, progress, index);
     let (_, names) = ends_by_source(alloc, batch, place);
@@ -90,8 +83,7 @@ fn note_ends(
     ends: &mut Ends,
 ) -> Result<(), AllocError>
     requires within { index < batch.now.size }
-    requires ends { (slot : ℕ) (grant : Grant) → slice_get (batch_slots (batch_of batch.now)) slot ≡ Some grant
-        → list_any (λ name. name == rank grant) names.now ≡ serial_ends (batch_of batch.now) index slot }
+    requires ends { AreEndedBy (batch_of batch.now) index names.now }
     requires told { AreSerialEnds (batch_of batch.now) ends.old }
     ensures told { OnOk result (AreSerialEnds (batch_of batch.now) ends.new) }
     ensures kept { OnOk result (KeepsNoted ends.old ends.new) }
@@ -112,9 +104,7 @@ fn judge_ends(
     index: usize,
     progress: &mut BatchProgress,
 ) -> Result<(), AllocError>
-    requires within { index < batch.now.size }
-    requires references { HasItsReferences (batch_of batch.now) closed.now }
-    requires stands { IsDoneTo (batch_of batch.now) index progress.old }
+    requires next { ComesNext (batch_of batch.now) closed.now index progress.old }
     requires words { words.now ≡ serial_words (batch_of batch.now) index }
     ensures told { OnOk result (AreSerialEnds (batch_of batch.now) progress.new.ends) }
     ensures kept { OnOk result (KeepsNoted progress.old.ends progress.new.ends) }
@@ -130,7 +120,7 @@ fn judge_ends(
     Ok(())
 }
 
-/// Runs a place after those below it. Its own words are put together in the room that is lent. An error means out of memory.
+/// Runs a place after those below it. Its own words are gathered together in the room that is lent. An error means out of memory.
 pub(crate) fn judge(
     alloc: Global,
     batch: &LogBatch<'_>,
@@ -139,9 +129,7 @@ pub(crate) fn judge(
     progress: &mut BatchProgress,
     words: &mut OwnWords,
 ) -> Result<(), AllocError>
-    requires within { index < batch.now.size }
-    requires references { HasItsReferences (batch_of batch.now) closed.now }
-    requires stands { IsDoneTo (batch_of batch.now) index progress.old }
+    requires next { ComesNext (batch_of batch.now) closed.now index progress.old }
     ensures stands { OnOk result (IsDoneTo (batch_of batch.now) (suc index) progress.new) }
     ensures kept { OnOk result (KeepsNoted progress.old.ends progress.new.ends) }
 {

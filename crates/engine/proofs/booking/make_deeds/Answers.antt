@@ -1,15 +1,11 @@
 use Rattle.std.proofs.Common.{◌≡◌, ◌<◌, ◌++◌, List, IfOk, ap, sym, ◌∙◌, subst, length}
 use Rattle.std.specs.Prelude.{All}
-use Rattle.std.specs.Option.{option_to_list}
-use Rattle.std.proofs.lemmas.List.{append-nil}
 use Rattle.model_base.specs.declared.deed.Deed.{Deed}
 use Rattle.model_base.specs.Laws.{AreGrantsOrRevocation}
 use Rattle.model_base.specs.Outcomes.{deed_done, deeds_before, owners, world_before}
 use Rattle.model_base.specs.Privileges.{place_of}
 use Rattle.model_base.proofs.Made.{deeds_of-one, deeds_of-placed}
 use Rattle.grants_base.specs.Book.{table_of_deed}
-use Rattle.engine.proofs.Making.{made_none}
-use Rattle.engine.proofs.NoDeeds.{no_deeds}
 use Rattle.engine.proofs.booking.make_deeds.Goals as goal
 
 pub make-requires-clause-next : goal.make-requires-clause-next
@@ -28,19 +24,7 @@ pub make-requires-clause-table : goal.make-requires-clause-table
 make-requires-clause-table c =
     subst (All (λ made. table_of_deed made < length c.args.book.now.tables)) (sym c.deeds_at.ensures) c.requires.table
 
-pub returns-in-None-clause-ok : goal.returns-in-None-clause-ok
-returns-in-None-clause-ok c =
-    let past = deeds_before c.args.log.now.log.statements c.args.place in
-    let none = no_deeds c.args.place c.args.statement.now.user c.args.statement.now.form (ap (λ o. option_to_list o) (sym c.in-None.is) ∙ c.deed_table.ensures) in
-    made_none c.args.log.now.log.statements c.args.place c.args.book.now c.requires.stands c.requires.owners
-    (c.requires.next ∙ ap (λ (ds : List Deed). past ++ ds) none ∙ append-nil past)
-
-pub returns-in-None-clause-told : goal.returns-in-None-clause-told
-returns-in-None-clause-told c =
-    let none = no_deeds c.args.place c.args.statement.now.user c.args.statement.now.form (ap (λ o. option_to_list o) (sym c.in-None.is) ∙ c.deed_table.ensures) in
-    ap (deed_done (owners c.args.log.now.log.statements) (world_before c.args.log.now.log.statements c.args.place)) (sym none)
-
-pub returns-in-Some-clause-told : goal.returns-in-Some-clause-told
-returns-in-Some-clause-told c =
+pub returns-clause-told : goal.returns-clause-told
+returns-clause-told c =
     let done_as = deed_done (owners c.args.log.now.log.statements) (world_before c.args.log.now.log.statements c.args.place) in
     subst (λ (ds : List Deed). IfOk c.make.result (λ done. done ≡ done_as ds)) c.deeds_at.ensures c.make.ensures.told

@@ -1,14 +1,35 @@
-use Rattle.std.proofs.Common.{Err, Ok, OnErr, Result}
+use Rattle.std.proofs.lemmas.List.{length-append}
+use Rattle.std.proofs.Common.{◌≡◌, ◌+◌, ◌++◌, ◌∷◌, [], ℕ, List, ap, ◌∙◌, subst, arith, append_assoc, length}
+use Rattle.model_base.specs.declared.outcome.Outcome.{Outcome}
+use Rattle.engine.specs.RunState.{IsRunState}
+use Rattle.filling.proofs.Ranges.{outcomes_more}
 use Rattle.engine.proofs.Cutting.{cut_back}
+use Rattle.engine.proofs.Running.{adds-more}
 use Rattle.engine.proofs.in_order.run_in_order.Goals as goal
 
--- what holds anyway holds where there is an error
-on_err : {T E P : Type 0} (result : Result T E) → P → OnErr result P
-on_err (Ok value) holds = tt
-on_err (Err error) holds = holds
+pub loop-index-preserved : goal.loop-index-preserved
+loop-index-preserved g c =
+    let log = c.args.log.now.log.statements in
+    let first = c.args.range.start in
+    let index = c.loop-index.index in
+    let invariant = c.loop-index.invariant in
+    let one = c.in-Ok.found in
+    let pushed = c.push_reserved.ensures in
+    let next : first + index + 1 ≡ first + (index + 1) = omega arith in
+    record {
+      stands = subst (λ (n : ℕ). IsRunState log n c.run_place.new.state.chains c.run_place.new.state.book) next c.in-Ok.ensures.stands;
+      adds = adds-more first (first + index) c.args.state.now c.loop-index.state c.run_place.new.state (omega arith) invariant.adds c.run_place.ensures.adds;
+      came = (
+        invariant.came.0 ++ one ∷ [],
+        pushed.items ∙ ap (λ (items : List Outcome). items ++ one ∷ []) invariant.came.1 ∙ append_assoc c.reserve.new.self.items invariant.came.0 (one ∷ []),
+        outcomes_more log first index invariant.came.0 one invariant.came.2 c.in-Ok.ensures.came,
+      );
+      room = omega (arith, invariant.room, pushed.capacity, ap length pushed.items, length-append c.loop-index.outcomes.items (one ∷ []), c.loop-index-test.true);
+    }
 
-pub returns-then-is_err-clause-state : goal.returns-then-is_err-clause-state
-returns-then-is_err-clause-state g c =
-    on_err c.run_places-done.result
-    (cut_back c.args.log.now.log.statements c.args.range.start c.args.state.now c.run_places-done.new.state c.requires.next.stands c.mark-mark.ensures.whole
-    c.run_places-done.ensures.adds c.cut.new.self c.cut-then-is_err.new.self c.cut.ensures c.cut-then-is_err.ensures.cut)
+pub returns-in-Err-clause-state : goal.returns-in-Err-clause-state
+returns-in-Err-clause-state g c =
+    let first = c.args.range.start in
+    cut_back c.args.log.now.log.statements first c.args.state.now c.run_place.new.state c.requires.next.stands c.mark-mark.ensures.whole
+    (adds-more first (first + c.loop-index.index) c.args.state.now c.loop-index.state c.run_place.new.state (omega arith) c.loop-index.invariant.adds c.run_place.ensures.adds)
+    c.cut.new.self c.cut-in-Err.new.self c.cut.ensures c.cut-in-Err.ensures.cut

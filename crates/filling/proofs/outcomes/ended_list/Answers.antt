@@ -15,7 +15,7 @@ returns-clause-value c found told done revokes =
     let at = subst (λ (r : LogRange). slice_get r.log.statements (r.first + c.args.index) ≡ Some statement) c.batch-batch.ensures c.statement-statement.ensures.at in
     c.new.ensures
     ∙ c.in_ok-names.ensures.value
-    ∙ endings-told ranged is c.args.index c.requires.within statement at key.slots c.slots-slots.ensures.order c.ends-ends.ensures.listed
+    ∙ endings-told ranged is c.args.index c.requires.done.within statement at key.slots c.slots-slots.ensures.order c.ends-ends.ensures.listed
     (λ slot other grant later less here there. c.slots_stand_in_order.ensures (batch_of ranged) slot other grant later (sound_batch ranged is) less here there)
     done found told
 

@@ -1,16 +1,13 @@
 use Rattle.std.proofs.Common.{ℕ, List, length, ◌∙◌, sym, ap, subst, arith}
 use Rattle.log_batch.specs.Supplied.{batch_of}
-use Rattle.words.specs.Passes.{IsPassOf, PassState}
-use Rattle.words.specs.Views.{In}
+use Rattle.words.specs.Passes.{PassState}
 use Rattle.filling.specs.Outcomes.{ended_ranks_at}
+use Rattle.filling.specs.Readings.{KnowsDone}
 use Rattle.filling.proofs.Endings.{ended-more}
 use Rattle.filling.proofs.outcomes.ended_names.Goals as goal
 
-pub put_ended-requires-clause-same_table : goal.put_ended-requires-clause-same_table
-put_ended-requires-clause-same_table c = subst (λ (pass : PassState). IsPassOf c.args.words.now pass) (sym c.loop-number.invariant.same) c.requires.same_table
-
-pub put_ended-requires-clause-known : goal.put_ended-requires-clause-known
-put_ended-requires-clause-known c = subst (λ (pass : PassState). In c.args.index pass.view.known) (sym c.loop-number.invariant.same) c.requires.known
+pub put_ended-requires-clause-done : goal.put_ended-requires-clause-done
+put_ended-requires-clause-done c = subst (λ (pass : PassState). KnowsDone c.args.words.now c.args.key.now pass c.args.index) (sym c.loop-number.invariant.same) c.requires.done
 
 pub loop-number-preserved : goal.loop-number-preserved
 loop-number-preserved c =

@@ -1,4 +1,4 @@
-use Rattle.std.proofs.Common.{sym, ap, ◌∙◌, subst, inl, inr}
+use Rattle.std.proofs.Common.{rules, sym, ap, ◌∙◌, subst, inl, inr}
 use Rattle.log_batch.specs.Supplied.{batch_of}
 use Rattle.filling.specs.Keys.{Key}
 use Rattle.words.specs.declared.knowledge.Knowledge.{Knowledge}
@@ -12,9 +12,15 @@ use Rattle.filling.proofs.Lists.{in-back}
 use Rattle.filling.proofs.Telling.{found-held, found-learns, looked}
 use Rattle.filling.proofs.outcomes.outcome.Goals as goal
 
-pub outcome_known-requires-clause-known : goal.outcome_known-requires-clause-known
-outcome_known-requires-clause-known c =
-    subst (λ (v : Knowledge). In c.args.index v.known) (sym c.in-Done.ensures.tells) (in-back c.args.index c.begin-holding.result.view.known)
+pub outcome_known-requires : goal.outcome_known-requires
+outcome_known-requires c = record {
+  done = record {
+    same_table = search rules;
+    key = search rules;
+    within = search rules;
+    known = subst (λ (v : Knowledge). In c.args.index v.known) (sym c.in-Done.ensures.tells) (in-back c.args.index c.begin-holding.result.view.known);
+  };
+}
 
 pub returns-in-Ok-clause-tells : goal.returns-in-Ok-clause-tells
 returns-in-Ok-clause-tells c =

@@ -11,12 +11,12 @@ returns-clause-value c =
     let ranged = c.batch-batch.result.now in
     let index = c.args.index in
     let same = c.batch-batch.ensures in
-    let within : index < ranged.size = subst (λ (r : LogRange). index < r.size) (sym same) c.requires.within in
+    let within : index < ranged.size = subst (λ (r : LogRange). index < r.size) (sym same) c.requires.done.within in
     let low = c.first_place-first.ensures.small in
     let small : ranged.first + index < 2 ^ 64 = omega arith in
     let own : List ℕ = take c.words_length-count.result c.load_own-own.result in
     let is : own ≡ serial_words (batch_of ranged) index
-    = c.load_own-own.ensures.value ∙ ap (λ (k : Key). serial_words (batch_of k.batch) index) c.requires.key ∙ ap (λ (r : LogRange). serial_words (batch_of r) index) (sym same) in
+    = c.load_own-own.ensures.value ∙ ap (λ (k : Key). serial_words (batch_of k.batch) index) c.requires.done.key ∙ ap (λ (r : LogRange). serial_words (batch_of r) index) (sym same) in
     let right = subst (λ (r : LogRange). IsEndedList r index c.args.ended) (sym same) c.requires.ended in
     let told = told-outcome ranged c.statement-statement.ensures.of_log index within c.statement-statement.result.now c.statement-statement.ensures.at c.statement-statement.ensures.taken small
     c.words_tell_outcomes.ensures own c.args.ended is right in

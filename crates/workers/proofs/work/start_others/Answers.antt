@@ -1,4 +1,4 @@
-use Rattle.std.proofs.Common.{◌≡◌, [], length, ap, arith, rules, sym, subst}
+use Rattle.std.proofs.Common.{◌≡◌, [], length, ap, arith, rules, sym, subst, ◌∙◌}
 use Rattle.std.proofs.lemmas.List.Elements.{All-nil, All-push, All-same}
 use Rattle.words.specs.Passes.{PassState, cut_first}
 use Rattle.workers.specs.Working.{GoesOn}
@@ -16,13 +16,13 @@ hands-init g c = record {
   room = omega (arith, ap length c.requires.none, c.requires.room);
 }
 
-pub returns-in_default-start-clause-on : goal.returns-in_default-start-clause-on
-returns-in_default-start-clause-on g c =
+pub returns-in_default-spawn_with-clause-on : goal.returns-in_default-spawn_with-clause-on
+returns-in_default-spawn_with-clause-on g c =
     subst (λ (after : PassState). GoesOn c.args.pass after) (sym c.split-kept.ensures.first)
     (on_and_on c.args.pass c.hands.rest (cut_first c.hands.rest) c.hands.invariant.on (cut_on c.hands.rest))
 
-pub returns-in_default-start-clause-hands : goal.returns-in_default-start-clause-hands
-returns-in_default-start-clause-hands g c =
+pub returns-in_default-spawn_with-clause-hands : goal.returns-in_default-spawn_with-clause-hands
+returns-in_default-spawn_with-clause-hands g c =
     dealt_front (λ hand. hand.items) g.P.BatchPlacer.is_of g.P.BatchPlacer.front c.args.shared.now c.hands.hands.items c.pop.new.self.items c.in-Some.placers
     c.in-Some.ensures.items c.hands.invariant.hands
 
@@ -34,7 +34,8 @@ hands-preserved g c = record {
       c.in-Some.ensures.items c.hands.invariant.hands;
   some = search rules;
   helpers = All-same (λ thread. thread.promise.0.now ≡ c.args.shared.now) _ _ c.push_reserved.ensures.items
-      (All-push (λ thread. thread.promise.0.now ≡ c.args.shared.now) c.hands.threads.items c.in-Some-start.thread c.hands.invariant.helpers c.in-Some-start.ensures);
+      (All-push (λ thread. thread.promise.0.now ≡ c.args.shared.now) c.hands.threads.items c.in-Ok.thread c.hands.invariant.helpers
+      (ap (λ promise. promise.0.now) c.in-Ok.ensures.ok ∙ c.shared.view_is));
   all = search rules;
   room = search rules;
 }

@@ -4,19 +4,36 @@ use Rattle.words.specs.declared.knowledge.Knowledge.{Knowledge}
 use Rattle.filling_base.specs.Counting.{counted_more}
 use Rattle.filling_base.specs.Extending.{Finishes}
 use Rattle.filling.specs.Bodies.{runs_at}
+use Rattle.filling.proofs.Telling.{reads-later}
 use Rattle.filling.proofs.fill.RangeKeyFills.fill.Goals as goal
 
-pub ends_of-holding-requires-clause-ready : goal.ends_of-holding-requires-clause-ready
-ends_of-holding-requires-clause-ready c other has = c.own_told-holding.ensures.learns.goes.knows other (c.requires.ready other has)
+pub own_told-holding-requires-clause-reads : goal.own_told-holding-requires-clause-reads
+own_told-holding-requires-clause-reads c = record {
+  same_table = c.requires.same_table;
+  key = c.requires.key;
+  within = c.requires.within;
+  past = c.requires.past;
+  ready = c.requires.ready;
+}
 
-pub ends_of-holding-requires-clause-past : goal.ends_of-holding-requires-clause-past
-ends_of-holding-requires-clause-past c =
-    c.passes_keep_the_fronts_that_they_know.ensures.past (batch_of c.args.self.now.batch) c.args.holding.view c.own_told-holding.result.view c.args.index c.args.index
-    c.own_told-holding.ensures.learns.goes.fronts (omega arith) c.requires.past
+pub ends_of-holding-requires-clause-reads : goal.ends_of-holding-requires-clause-reads
+ends_of-holding-requires-clause-reads c =
+    let first = c.args.holding in
+    let told = c.own_told-holding.result in
+    let learns = c.own_told-holding.ensures.learns in
+    reads-later c.args.words.now c.args.self.now first told c.args.index (λ other has. learns.goes.knows other has) c.own_told-holding.ensures.same.table
+    (c.passes_keep_the_fronts_that_they_know.ensures.past (batch_of c.args.self.now.batch) first.view told.view c.args.index c.args.index learns.goes.fronts (omega arith) c.requires.past)
+    (record { same_table = c.requires.same_table; key = c.requires.key; within = c.requires.within; past = c.requires.past; ready = c.requires.ready })
 
-pub store_place-holding-requires-clause-ready : goal.store_place-holding-requires-clause-ready
-store_place-holding-requires-clause-ready c other has =
-    c.ends_of-holding.ensures.learns.goes.knows other (c.own_told-holding.ensures.learns.goes.knows other (c.requires.ready other has))
+pub store_place-holding-requires-clause-reads : goal.store_place-holding-requires-clause-reads
+store_place-holding-requires-clause-reads c =
+    let first = c.args.holding in
+    let ended = c.ends_of-holding.result.0 in
+    let learns = c.learning_comes_before_storing.ensures.again first.view c.own_told-holding.result.view ended.view c.own_told-holding.ensures.learns c.ends_of-holding.ensures.learns in
+    reads-later c.args.words.now c.args.self.now first ended c.args.index (λ other has. learns.goes.knows other has)
+    (c.ends_of-holding.ensures.same.table ∙ c.own_told-holding.ensures.same.table)
+    (c.passes_keep_the_fronts_that_they_know.ensures.past (batch_of c.args.self.now.batch) first.view ended.view c.args.index c.args.index learns.goes.fronts (omega arith) c.requires.past)
+    (record { same_table = c.requires.same_table; key = c.requires.key; within = c.requires.within; past = c.requires.past; ready = c.requires.ready })
 
 pub returns-in-Ok-clause-tells : goal.returns-in-Ok-clause-tells
 returns-in-Ok-clause-tells c =

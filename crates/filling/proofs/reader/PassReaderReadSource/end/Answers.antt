@@ -23,7 +23,7 @@ returns-clause-value g c =
     let s = c.self.inside in
     let listed = subst (λ (reading : PlaceReading). is_listed ((batch_of reading.ranged).tables reading.index) (table_at (batch_of reading.ranged) c.args.slot) ≡ true) (sym c.self.view_is) c.requires.listed in
     subst (λ (reading : PlaceReading). end_below (reading.ranged.first + reading.index) c.end_at.result ≡ end_below (reading.ranged.first + reading.index) (whole_end (batch_of reading.ranged) c.args.slot)) c.self.view_is
-    (c.end_at.ensures.told s.index c.self.invariant.within c.self.invariant.ready listed)
+    (c.end_at.ensures.told s.index c.self.invariant.reads.within c.self.invariant.reads.ready listed)
 
 pub returns-clause-same : goal.returns-clause-same
 returns-clause-same g c =

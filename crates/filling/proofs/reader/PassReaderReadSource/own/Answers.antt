@@ -17,15 +17,15 @@ own-requires-clause-within g c =
     let is = subst (λ (reading : PlaceReading). IsReferred (reader_in reading) c.args.index) (sym c.self.view_is) c.requires.referred in
     let number = subst (λ (reading : PlaceReading). c.args.number < words_length (batch_of reading.ranged) c.args.index) (sym c.self.view_is) c.requires.number in
     let low = referred-low (reader_in inside) c.args.index is in
-    let within = c.self.invariant.within in
+    let within = c.self.invariant.reads.within in
     let below : c.args.index < s.key.now.batch.size = omega arith in
-    subst (λ (k : Key). (c.args.index < (batch_of k.batch).size) × (c.args.number < words_length (batch_of k.batch) c.args.index)) (sym c.self.invariant.key) (below, number)
+    subst (λ (k : Key). (c.args.index < (batch_of k.batch).size) × (c.args.number < words_length (batch_of k.batch) c.args.index)) (sym c.self.invariant.reads.key) (below, number)
 
 pub own-requires-clause-known : goal.own-requires-clause-known
 own-requires-clause-known g c =
     let s = c.self.inside in
     let is = subst (λ (reading : PlaceReading). IsReferred (reader_in reading) c.args.index) (sym c.self.view_is) c.requires.referred in
-    referred-known (batch_of s.key.now.batch) s.holding.view s.index c.args.index c.self.invariant.ready is
+    referred-known (batch_of s.key.now.batch) s.holding.view s.index c.args.index c.self.invariant.reads.ready is
 
 pub invariant_of-self : goal.invariant_of-self
 invariant_of-self g c =
@@ -36,7 +36,7 @@ pub returns-clause-value : goal.returns-clause-value
 returns-clause-value g c =
     let s = c.self.inside in
     c.own.ensures.value
-    ∙ ap (λ (k : Key). get_or (serial_words (batch_of k.batch) c.args.index) c.args.number 0) c.self.invariant.key
+    ∙ ap (λ (k : Key). get_or (serial_words (batch_of k.batch) c.args.index) c.args.number 0) c.self.invariant.reads.key
     ∙ ap (λ (reading : PlaceReading). get_or (serial_words (batch_of reading.ranged) c.args.index) c.args.number 0) c.self.view_is
 
 pub returns-clause-same : goal.returns-clause-same

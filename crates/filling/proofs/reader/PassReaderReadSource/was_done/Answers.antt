@@ -12,17 +12,17 @@ use Rattle.filling.proofs.reader.PassReaderReadSource.was_done.Goals as goal
 
 pub deed_was_done-requires-clause-within : goal.deed_was_done-requires-clause-within
 deed_was_done-requires-clause-within g c =
-    subst (λ (k : Key). c.self.inside.index < k.batch.size) (sym c.self.invariant.key) c.self.invariant.within
+    subst (λ (k : Key). c.self.inside.index < k.batch.size) (sym c.self.invariant.reads.key) c.self.invariant.reads.within
 
 pub deed_was_done-requires-clause-ready : goal.deed_was_done-requires-clause-ready
 deed_was_done-requires-clause-ready g c =
-    subst (λ (k : Key). KnowsReferences (batch_of k.batch) c.self.inside.holding.view c.self.inside.index) (sym c.self.invariant.key) c.self.invariant.ready
+    subst (λ (k : Key). KnowsReferences (batch_of k.batch) c.self.inside.holding.view c.self.inside.index) (sym c.self.invariant.reads.key) c.self.invariant.reads.ready
 
 pub deed_was_done-requires-clause-deed : goal.deed_was_done-requires-clause-deed
 deed_was_done-requires-clause-deed g c =
     let s = c.self.inside in
     let is = subst (λ (reading : PlaceReading). IsDeedBefore (reader_in reading) c.args.index) (sym c.self.view_is) c.requires.deed in
-    subst (λ (k : Key). IsDeedBefore (record { batch = batch_of k.batch; index = s.index }) c.args.index) (sym c.self.invariant.key) is
+    subst (λ (k : Key). IsDeedBefore (record { batch = batch_of k.batch; index = s.index }) c.args.index) (sym c.self.invariant.reads.key) is
 
 pub invariant_of-self : goal.invariant_of-self
 invariant_of-self g c =
@@ -32,7 +32,7 @@ invariant_of-self g c =
 pub returns-clause-value : goal.returns-clause-value
 returns-clause-value g c =
     c.deed_was_done.ensures.value
-    ∙ ap (λ (k : Key). was_done (serial_words (batch_of k.batch) c.args.index)) c.self.invariant.key
+    ∙ ap (λ (k : Key). was_done (serial_words (batch_of k.batch) c.args.index)) c.self.invariant.reads.key
     ∙ ap (λ (reading : PlaceReading). was_done (serial_words (batch_of reading.ranged) c.args.index)) c.self.view_is
 
 pub returns-clause-same : goal.returns-clause-same

@@ -1,158 +1,273 @@
-use Rattle.std.proofs.Common.{◌≡◌, refl, sym, ap, ◌∙◌, subst}
-use Rattle.bohm_core_base.specs.Batch.{Batch}
-use Rattle.words.specs.declared.knowledge.Knowledge.{Knowledge}
+use Rattle.std.proofs.Common.{◌≡◌, ◌<◌, [], length, refl, sym, ap, ◌∙◌, subst, inl, arith}
+use Rattle.std.proofs.lemmas.Grind.{common_steps}
+use Rattle.bohm_core_base.specs.Batch.{Batch, reference_words}
 use Rattle.words.specs.Passes.{PassState}
-use Rattle.words.specs.Views.{HoldsNone, IsSettled, KnowsPast, with_known}
-use Rattle.filling_base.specs.declared.run.Tried.TheVariants.{Busy, Done, NotPlaced}
-use Rattle.filling_base.specs.Counting.{finished_places}
-use Rattle.filling_base.specs.Extending.{OnlyLearns}
-use Rattle.filling_base.specs.Tries.{IsKnownDone, MeetsUnplaced, TriedMeans}
-use Rattle.filling_base.proofs.Counting.{counts-claim, counts-from, counts-look, counts-on, counts-then}
-use Rattle.filling_base.proofs.Holding.{holds-nothing}
-use Rattle.filling_base.proofs.Learning.{none-later}
-use Rattle.filling_base.proofs.Seeing.{untold-claimed, untold-free, untold-held}
-use Rattle.filling_base.proofs.Walking.{claimed, found-done, found-held, learnt-from, ran-from}
+use Rattle.words.specs.Views.{KnowsPast, KnowsReferences}
+use Rattle.words.proofs.Known.{keeps-same, past-later}
+use Rattle.filling_base.specs.declared.run.Tried.TheVariants.{Done}
+use Rattle.filling_base.specs.Counting.{CountsBodies, counted_more}
+use Rattle.filling_base.specs.Extending.{IsSamePass}
+use Rattle.filling_base.specs.References.{IsRevocation}
+use Rattle.filling_base.specs.Tries.{IsKnownDone, TakesPlaced, TriedMeans}
+use Rattle.filling_base.specs.Walks.{GoesFurther, asked_place, spot}
+use Rattle.filling_base.proofs.Counting.{counts-filled, counts-starved, counts-then, counts-to}
+use Rattle.filling_base.proofs.Going.{same-then}
+use Rattle.filling_base.proofs.Paths.{knows-all, path-top}
+use Rattle.filling_base.proofs.Steps.{at-spot, starved, went-out}
+use Rattle.filling_base.proofs.Walking.{begun, busy, filled-all, filled-none, out-of-memory, over, over-idle, round}
 use Rattle.filling_base.proofs.batch.Batch.try_run.Goals as goal
-
-pub returns-in-Done-clause-tells : goal.returns-in-Done-clause-tells
-returns-in-Done-clause-tells g c =
-    found-done (g.K.BatchData.batch c.args.self.now.key) c.args.index c.args.pass.view c.end.result.view
-    (ap (λ (p : PassState). p.view) c.end.ensures ∙ c.in-Done.ensures.tells ∙ ap (λ (p : PassState). with_known p.view c.args.index) c.begin-holding.ensures.same)
-
--- held, as the look found
-pub returns-in-Held-clause-tells : goal.returns-in-Held-clause-tells
-returns-in-Held-clause-tells g c =
-    let b = g.K.BatchData.batch c.args.self.now.key in
-    let i = c.args.index in
-    let view = c.self.view_is in
-    let words : b ≡ g.K.BatchData.batch c.self.inside.words.key = cc in
-    let v = c.begin-holding.result.view in
-    let begun-is : v ≡ c.args.pass.view = ap (λ (p : PassState). p.view) c.begin-holding.ensures.same in
-    let untold = untold-held b v i c.look.result c.in-Held.is c.look.ensures.known (λ settled. c.look.ensures.settled (subst (λ (x : Batch). IsSettled x v i) words settled)) in
-    let told = found-held b i v c.look.new.pass.view (holds-nothing v c.begin-holding.ensures.idle) untold c.in-Held.ensures.tells in
-    subst (λ (p : PassState). TriedMeans b i c.args.pass.view (Busy i) p.view) (sym c.end-in-Held.ensures) (subst (λ (u : Knowledge). TriedMeans b i u (Busy i) c.look.new.pass.view) begun-is told)
-
-pub returns-in-Held-clause-told : goal.returns-in-Held-clause-told
-returns-in-Held-clause-told g c told =
-    let b = g.K.BatchData.batch c.args.self.now.key in
-    let i = c.args.index in
-    let view = c.self.view_is in
-    let words : b ≡ g.K.BatchData.batch c.self.inside.words.key = cc in
-    let v = c.begin-holding.result.view in
-    let begun-is : v ≡ c.args.pass.view = ap (λ (p : PassState). p.view) c.begin-holding.ensures.same in
-    let untold = untold-held b v i c.look.result c.in-Held.is c.look.ensures.known (λ settled. c.look.ensures.settled (subst (λ (x : Batch). IsSettled x v i) words settled)) in
-    absurd (untold (subst (λ (u : Knowledge). IsKnownDone b u i) (sym begun-is) told))
-
-pub returns-in-Some-clause-tells : goal.returns-in-Some-clause-tells
-returns-in-Some-clause-tells g c =
-    let b = g.K.BatchData.batch c.args.self.now.key in
-    let seen-is : c.look.new.pass.view ≡ c.begin-holding.result.view = c.in-Free.ensures.tells in
-    let same : c.look.new.pass.view ≡ c.args.pass.view = seen-is ∙ ap (λ (p : PassState). p.view) c.begin-holding.ensures.same in
-    let found : MeetsUnplaced b c.args.index c.in-Some.partition c.look.new.pass.view c.unplaced.new.holding.view = rw c.in-Some.is at c.unplaced.ensures.found in
-    subst (λ (p : PassState). TriedMeans b c.args.index c.args.pass.view (NotPlaced c.in-Some.partition) p.view) (sym c.end-in-Some.ensures)
-    (subst (λ (v : Knowledge). MeetsUnplaced b c.args.index c.in-Some.partition v c.unplaced.new.holding.view) same found)
 
 pub returns-in-Some-clause-told : goal.returns-in-Some-clause-told
 returns-in-Some-clause-told g c told =
+    c.in-Some.ensures.tells.told (subst (λ (p : PassState). IsKnownDone (g.K.BatchData.batch c.args.self.now.key) p.view c.args.index) (sym c.begin-holding.ensures.same) told)
+
+pub steps-init : goal.steps-init
+steps-init g c =
     let b = g.K.BatchData.batch c.args.self.now.key in
-    let i = c.args.index in
+    let begun-is = c.begin-holding.ensures.same in
+    let taken = c.claim_placed.new.holding in
+    let same : IsSamePass c.args.pass taken = subst (λ (p : PassState). IsSamePass p taken) begun-is c.in_default.ensures.same in record {
+      same_table = same.table ∙ c.requires.same_table;
+      same = same;
+      bodies = subst (λ (p : PassState). CountsBodies (g.K.Fills.runs c.args.self.now.key) p taken) begun-is c.in_default.ensures.bodies;
+      runs = begun b c.args.index c.args.pass.view taken.view c.new.result.items
+          (subst (λ (p : PassState). TakesPlaced b c.args.index p.view taken.view) begun-is c.in_default.ensures.tells) c.new.ensures.items;
+    }
+
+pub references_length-requires : goal.references_length-requires
+references_length-requires g c =
+    let invariant = c.self.invariant in
     let view = c.self.view_is in
-    let words : b ≡ g.K.BatchData.batch c.self.inside.words.key = cc in
-    let v = c.begin-holding.result.view in
-    let begun-is : v ≡ c.args.pass.view = ap (λ (p : PassState). p.view) c.begin-holding.ensures.same in
-    let untold = untold-free b v i c.look.result c.in-Free.is c.look.ensures.known (λ settled. c.look.ensures.settled (subst (λ (x : Batch). IsSettled x v i) words settled)) in
-    absurd (untold (subst (λ (u : Knowledge). IsKnownDone b u i) (sym begun-is) told))
+    let same : g.K.BatchData.batch c.args.self.now.key ≡ g.K.BatchData.batch c.self.inside.key = cc in
+    let s = spot c.steps.walk in
+    let runs = c.steps.invariant.runs in
+    let top = path-top (g.K.BatchData.batch c.args.self.now.key) s.view.known s.frames s.at runs.walks.path in
+    let asked = runs.for in
+    let within = c.requires.within in
+    subst (λ (b : Batch). s.at < b.size) same (omega arith)
 
--- placed by all, so it was claimed
-pub claim-requires-clause-past : goal.claim-requires-clause-past
-claim-requires-clause-past g c =
-    let view = c.self.view_is in
-    let words : g.K.BatchData.batch c.args.self.now.key ≡ g.K.BatchData.batch c.self.inside.words.key = cc in
-    subst (λ (x : Batch). KnowsPast x c.unplaced.new.holding.view c.args.index) words (rw c.in-None.is at c.unplaced.ensures.found)
+pub step-requires-clause-within : goal.step-requires-clause-within
+step-requires-clause-within g c =
+    let asked = c.steps.invariant.runs.for in
+    let within = c.requires.within in
+    omega arith
 
-pub run-requires-clause-held : goal.run-requires-clause-held
-run-requires-clause-held g c =
-    let seen-is : c.look.new.pass.view ≡ c.begin-holding.result.view = c.in-Free.ensures.tells in
-    let idle : HoldsNone c.unplaced.new.holding.view =
-    none-later c.look.new.pass.view c.unplaced.new.holding.view c.unplaced.ensures.learns
-    (subst (λ (v : Knowledge). HoldsNone v) (sym seen-is) c.begin-holding.ensures.idle) in
-    claimed (g.K.BatchData.batch c.args.self.now.key) c.args.index c.unplaced.new.holding.view c.claim.new.pass.view c.unplaced.new.holding.number
-    (holds-nothing c.unplaced.new.holding.view idle) c.in-Won.ensures.tells.0
+pub steps-preserved-in-Went : goal.steps-preserved-in-Went
+steps-preserved-in-Went g c =
+    let i = c.steps.invariant in
+    let stepped : GoesFurther (g.K.BatchData.batch c.args.self.now.key) (spot c.steps.walk) (spot c.step.new.walk) = c.in-Went.ensures.stepped in
+    let same = c.step.ensures.same in record {
+      same_table = same.table ∙ i.same_table;
+      same = same-then c.args.pass c.steps.walk.holding c.step.new.walk.holding i.same same;
+      bodies = counts-then (g.K.Fills.runs c.args.self.now.key) c.args.pass c.steps.walk.holding c.step.new.walk.holding i.bodies c.step.ensures.bodies;
+      runs = round (g.K.BatchData.batch c.args.self.now.key) c.args.index c.args.pass.view (spot c.steps.walk) (spot c.step.new.walk) i.runs stepped;
+    }
 
-pub run-requires-clause-past : goal.run-requires-clause-past
-run-requires-clause-past g c =
-    subst (λ (v : Knowledge). KnowsPast (g.K.BatchData.batch c.args.self.now.key) v c.args.index) (sym c.in-Won.ensures.tells.0)
-    (rw c.in-None.is at c.unplaced.ensures.found)
+pub returns-in-Busy-clause-same : goal.returns-in-Busy-clause-same
+returns-in-Busy-clause-same g c =
+    let next = c.step.new.walk.holding in
+    same-then c.args.pass next c.release.result (same-then c.args.pass c.steps.walk.holding next c.steps.invariant.same c.step.ensures.same) c.release.ensures.same
 
-pub returns-in-Done-claim-clause-tells : goal.returns-in-Done-claim-clause-tells
-returns-in-Done-claim-clause-tells g c =
-    let b = g.K.BatchData.batch c.args.self.now.key in
-    let seen-is : c.look.new.pass.view ≡ c.begin-holding.result.view = c.in-Free.ensures.tells in
-    let same : c.look.new.pass.view ≡ c.args.pass.view = seen-is ∙ ap (λ (p : PassState). p.view) c.begin-holding.ensures.same in
-    let learns : OnlyLearns c.args.pass.view c.unplaced.new.holding.view = subst (λ (v : Knowledge). OnlyLearns v c.unplaced.new.holding.view) same c.unplaced.ensures.learns in
-    learnt-from b c.args.index c.args.pass.view c.unplaced.new.holding.view c.end-in-Done-claim.result.view Done refl learns
-    (found-done b c.args.index c.unplaced.new.holding.view c.end-in-Done-claim.result.view
-    (ap (λ (p : PassState). p.view) c.end-in-Done-claim.ensures ∙ c.in-Done-claim.ensures.tells))
+pub returns-in-Busy-clause-tells : goal.returns-in-Busy-clause-tells
+returns-in-Busy-clause-tells g c =
+    busy (g.K.BatchData.batch c.args.self.now.key) c.args.index c.in-Busy.other c.args.pass.view c.release.result.view (spot c.steps.walk) (spot c.step.new.walk)
+    c.steps.invariant.runs c.in-Busy.ensures.stepped c.release.ensures.released
 
--- held, as the claim found
-pub returns-in-Held-claim-clause-tells : goal.returns-in-Held-claim-clause-tells
-returns-in-Held-claim-clause-tells g c =
-    let seen-is : c.look.new.pass.view ≡ c.begin-holding.result.view = c.in-Free.ensures.tells in
-    let idle : HoldsNone c.unplaced.new.holding.view =
-    none-later c.look.new.pass.view c.unplaced.new.holding.view c.unplaced.ensures.learns
-    (subst (λ (v : Knowledge). HoldsNone v) (sym seen-is) c.begin-holding.ensures.idle) in
-    let b = g.K.BatchData.batch c.args.self.now.key in
-    let same : c.look.new.pass.view ≡ c.args.pass.view = seen-is ∙ ap (λ (p : PassState). p.view) c.begin-holding.ensures.same in
-    let learns : OnlyLearns c.args.pass.view c.unplaced.new.holding.view = subst (λ (v : Knowledge). OnlyLearns v c.unplaced.new.holding.view) same c.unplaced.ensures.learns in
-    let i = c.args.index in
-    let view = c.self.view_is in
-    let words : b ≡ g.K.BatchData.batch c.self.inside.words.key = cc in
-    let v = c.unplaced.new.holding.view in
-    let untold = untold-claimed b v i c.claim.result c.in-Held-claim.is c.claim.ensures.known (λ settled. c.claim.ensures.settled (subst (λ (x : Batch). IsSettled x v i) words settled)) in
-    let told = found-held b i v c.claim.new.pass.view (holds-nothing v idle) untold c.in-Held-claim.ensures.tells in
-    subst (λ (p : PassState). TriedMeans b i c.args.pass.view (Busy i) p.view) (sym c.end-in-Held-claim.ensures)
-    (learnt-from b i c.args.pass.view v c.claim.new.pass.view (Busy i) refl learns told)
-
-pub returns-in-Held-claim-clause-told : goal.returns-in-Held-claim-clause-told
-returns-in-Held-claim-clause-told g c told =
-    let b = g.K.BatchData.batch c.args.self.now.key in
-    let i = c.args.index in
-    let view = c.self.view_is in
-    let words : b ≡ g.K.BatchData.batch c.self.inside.words.key = cc in
-    let v = c.begin-holding.result.view in
-    let begun-is : v ≡ c.args.pass.view = ap (λ (p : PassState). p.view) c.begin-holding.ensures.same in
-    let untold = untold-free b v i c.look.result c.in-Free.is c.look.ensures.known (λ settled. c.look.ensures.settled (subst (λ (x : Batch). IsSettled x v i) words settled)) in
-    absurd (untold (subst (λ (u : Knowledge). IsKnownDone b u i) (sym begun-is) told))
-
-pub returns-in-Won-clause-tells : goal.returns-in-Won-clause-tells
-returns-in-Won-clause-tells g c =
-    let b = g.K.BatchData.batch c.args.self.now.key in
-    let seen-is : c.look.new.pass.view ≡ c.begin-holding.result.view = c.in-Free.ensures.tells in
-    let same : c.look.new.pass.view ≡ c.args.pass.view = seen-is ∙ ap (λ (p : PassState). p.view) c.begin-holding.ensures.same in
-    let learns : OnlyLearns c.args.pass.view c.unplaced.new.holding.view = subst (λ (v : Knowledge). OnlyLearns v c.unplaced.new.holding.view) same c.unplaced.ensures.learns in
-    learnt-from b c.args.index c.args.pass.view c.unplaced.new.holding.view c.run.result.0.view c.run.result.1 c.run.ensures.placed learns
-    (ran-from b c.args.index c.unplaced.new.holding.view c.claim.new.pass.view c.run.result.0.view c.unplaced.new.holding.number c.run.result.1
-    c.run.ensures.placed c.in-Won.ensures.tells.0 c.run.ensures.tells)
-
-pub returns-in-Won-clause-told : goal.returns-in-Won-clause-told
-returns-in-Won-clause-told g c told =
-    let b = g.K.BatchData.batch c.args.self.now.key in
-    let i = c.args.index in
-    let view = c.self.view_is in
-    let words : b ≡ g.K.BatchData.batch c.self.inside.words.key = cc in
-    let v = c.begin-holding.result.view in
-    let begun-is : v ≡ c.args.pass.view = ap (λ (p : PassState). p.view) c.begin-holding.ensures.same in
-    let untold = untold-free b v i c.look.result c.in-Free.is c.look.ensures.known (λ settled. c.look.ensures.settled (subst (λ (x : Batch). IsSettled x v i) words settled)) in
-    absurd (untold (subst (λ (u : Knowledge). IsKnownDone b u i) (sym begun-is) told))
-
-pub returns-in-Won-clause-bodies : goal.returns-in-Won-clause-bodies
-returns-in-Won-clause-bodies g c =
+pub returns-in-Busy-clause-bodies : goal.returns-in-Busy-clause-bodies
+returns-in-Busy-clause-bodies g c =
     let runs = g.K.Fills.runs c.args.self.now.key in
-    let first = c.begin-holding.result in
-    let seen = c.look.new.pass in
-    let free = c.unplaced.new.holding in
-    let taken = c.claim.new.pass in
-    counts-from runs c.args.pass first c.run.result.0 c.begin-holding.ensures.same
-    (counts-then runs first seen c.run.result.0 (counts-look runs first seen c.args.index c.look.result c.look.ensures.same c.look.ensures.tells)
-    (counts-then runs seen free c.run.result.0 (counts-on runs seen free free.view c.unplaced.ensures.same (ap finished_places c.unplaced.ensures.learns.events))
-    (counts-then runs free taken c.run.result.0 (counts-claim runs free taken c.args.index c.claim.result c.claim.ensures.same c.claim.ensures.tells) c.run.ensures.bodies)))
+    let next = c.step.new.walk.holding in
+    counts-then runs c.args.pass next c.release.result
+    (counts-then runs c.args.pass c.steps.walk.holding next c.steps.invariant.bodies c.step.ensures.bodies) c.release.ensures.bodies
+
+pub returns-in-NoMemory-clause-same : goal.returns-in-NoMemory-clause-same
+returns-in-NoMemory-clause-same g c =
+    let next = c.step.new.walk.holding in
+    same-then c.args.pass next c.release-in-NoMemory.result (same-then c.args.pass c.steps.walk.holding next c.steps.invariant.same c.step.ensures.same) c.release-in-NoMemory.ensures.same
+
+pub returns-in-NoMemory-clause-tells : goal.returns-in-NoMemory-clause-tells
+returns-in-NoMemory-clause-tells g c =
+    out-of-memory (g.K.BatchData.batch c.args.self.now.key) c.args.index c.args.pass.view c.release-in-NoMemory.result.view (spot c.steps.walk) (spot c.step.new.walk)
+    c.steps.invariant.runs c.in-NoMemory.ensures.stepped c.release-in-NoMemory.ensures.released
+
+pub returns-in-NoMemory-clause-bodies : goal.returns-in-NoMemory-clause-bodies
+returns-in-NoMemory-clause-bodies g c =
+    let runs = g.K.Fills.runs c.args.self.now.key in
+    let next = c.step.new.walk.holding in
+    counts-then runs c.args.pass next c.release-in-NoMemory.result
+    (counts-then runs c.args.pass c.steps.walk.holding next c.steps.invariant.bodies c.step.ensures.bodies) c.release-in-NoMemory.ensures.bodies
+
+pub returns-in-Busy-clause-told : goal.returns-in-Busy-clause-told
+returns-in-Busy-clause-told g c told =
+    absurd (c.in_default.ensures.tells.untold (subst (λ (p : PassState). IsKnownDone (g.K.BatchData.batch c.args.self.now.key) p.view c.args.index) (sym c.begin-holding.ensures.same) told))
+
+pub returns-in-NoMemory-clause-told : goal.returns-in-NoMemory-clause-told
+returns-in-NoMemory-clause-told g c told =
+    absurd (c.in_default.ensures.tells.untold (subst (λ (p : PassState). IsKnownDone (g.K.BatchData.batch c.args.self.now.key) p.view c.args.index) (sym c.begin-holding.ensures.same) told))
+
+-- no reference is left, and the place is filled
+pub fill-holding-requires-clause-within : goal.fill-holding-requires-clause-within
+fill-holding-requires-clause-within g c =
+    let invariant = c.self.invariant in
+    let view = c.self.view_is in
+    let same : g.K.BatchData.batch c.args.self.now.key ≡ g.K.BatchData.batch c.self.inside.key = cc in
+    let s = spot c.steps.walk in
+    let runs = c.steps.invariant.runs in
+    let top = path-top (g.K.BatchData.batch c.args.self.now.key) s.view.known s.frames s.at runs.walks.path in
+    let asked = runs.for in
+    let within = c.requires.within in
+    subst (λ (b : Batch). s.at < b.size) same (omega arith)
+
+pub fill-holding-requires-clause-held : goal.fill-holding-requires-clause-held
+fill-holding-requires-clause-held g c = c.steps.invariant.runs.walks.holds.these c.steps.walk.at (inl refl)
+
+pub fill-holding-requires-clause-ready : goal.fill-holding-requires-clause-ready
+fill-holding-requires-clause-ready g c =
+    let invariant = c.self.invariant in
+    let view = c.self.view_is in
+    let same : g.K.BatchData.batch c.args.self.now.key ≡ g.K.BatchData.batch c.self.inside.key = cc in
+    let s = spot c.steps.walk in
+    let many : c.references_length.result ≡ length (reference_words (g.K.BatchData.batch c.args.self.now.key) s.at) =
+    c.references_length.ensures.value ∙ ap (λ (b : Batch). length (reference_words b s.at)) (sym same) in
+    let more = c.if-walk-references_length.false in
+    subst (λ (b : Batch). KnowsReferences b s.view s.at) same
+    (knows-all (g.K.BatchData.batch c.args.self.now.key) s.view s.at s.next (omega arith) c.steps.invariant.runs.walks.ready)
+
+pub fill-holding-requires-clause-past : goal.fill-holding-requires-clause-past
+fill-holding-requires-clause-past g c =
+    let invariant = c.self.invariant in
+    let view = c.self.view_is in
+    let same : g.K.BatchData.batch c.args.self.now.key ≡ g.K.BatchData.batch c.self.inside.key = cc in
+    let b = g.K.BatchData.batch c.args.self.now.key in
+    let s = spot c.steps.walk in
+    let walks = c.steps.invariant.runs.walks in
+    let top = path-top b s.view.known s.frames s.at walks.path in
+    subst (λ (b : Batch). KnowsPast b s.view s.at) same
+    (past-later b s.view s.view (asked_place s) s.at (keeps-same s.view) top walks.past)
+
+-- memory ran out for it
+pub release-requires-then-is_err-clause-same_table : goal.release-requires-then-is_err-clause-same_table
+release-requires-then-is_err-clause-same_table g c = c.fill-holding.ensures.same.table ∙ c.steps.invariant.same_table
+
+pub release-requires-then-is_err-clause-within : goal.release-requires-then-is_err-clause-within
+release-requires-then-is_err-clause-within g c =
+    let asked = c.steps.invariant.runs.for in
+    let within = c.requires.within in
+    omega arith
+
+pub release-requires-then-is_err-clause-walks : goal.release-requires-then-is_err-clause-walks
+release-requires-then-is_err-clause-walks g c =
+    let invariant = c.self.invariant in
+    let view = c.self.view_is in
+    let b = g.K.BatchData.batch c.args.self.now.key in
+    let same : b ≡ g.K.BatchData.batch c.self.inside.key = cc in
+    let s = spot c.steps.walk in
+    let after = c.fill-holding.result.0 in
+    let told = filled-none (g.K.BatchData.batch c.self.inside.key) s.at (g.K.Fills.runs c.self.inside.key s.at) c.steps.walk.holding.bodies after.bodies s.view after.view c.fill-holding.result.1
+    (sym c.is_err.ensures.value ∙ c.if-is_err.true) c.fill-holding.ensures.tells c.fill-holding.ensures.bodies in
+    (starved b s.view after.view s.at s.next s.frames c.steps.invariant.runs.walks told.0 (subst (λ (b : Batch). IsRevocation b s.at) (sym same) told.1)).stays.walks
+
+pub returns-then-is_err-clause-same : goal.returns-then-is_err-clause-same
+returns-then-is_err-clause-same g c =
+    let next = c.fill-holding.result.0 in
+    same-then c.args.pass next c.release-then-is_err.result (same-then c.args.pass c.steps.walk.holding next c.steps.invariant.same c.fill-holding.ensures.same) c.release-then-is_err.ensures.same
+
+pub returns-then-is_err-clause-tells : goal.returns-then-is_err-clause-tells
+returns-then-is_err-clause-tells g c =
+    let invariant = c.self.invariant in
+    let view = c.self.view_is in
+    let b = g.K.BatchData.batch c.args.self.now.key in
+    let same : b ≡ g.K.BatchData.batch c.self.inside.key = cc in
+    let s = spot c.steps.walk in
+    let after = c.fill-holding.result.0 in
+    let told = filled-none (g.K.BatchData.batch c.self.inside.key) s.at (g.K.Fills.runs c.self.inside.key s.at) c.steps.walk.holding.bodies after.bodies s.view after.view c.fill-holding.result.1
+    (sym c.is_err.ensures.value ∙ c.if-is_err.true) c.fill-holding.ensures.tells c.fill-holding.ensures.bodies in
+    out-of-memory b c.args.index c.args.pass.view c.release-then-is_err.result.view s (at-spot after.view s.at s.next s.frames) c.steps.invariant.runs
+    (starved b s.view after.view s.at s.next s.frames c.steps.invariant.runs.walks told.0 (subst (λ (b : Batch). IsRevocation b s.at) (sym same) told.1)) c.release-then-is_err.ensures.released
+
+pub returns-then-is_err-clause-bodies : goal.returns-then-is_err-clause-bodies
+returns-then-is_err-clause-bodies g c =
+    let runs = g.K.Fills.runs c.args.self.now.key in
+    let s = spot c.steps.walk in
+    let after = c.fill-holding.result.0 in
+    let told = filled-none (g.K.BatchData.batch c.self.inside.key) s.at (g.K.Fills.runs c.self.inside.key s.at) c.steps.walk.holding.bodies after.bodies s.view after.view c.fill-holding.result.1
+    (sym c.is_err.ensures.value ∙ c.if-is_err.true) c.fill-holding.ensures.tells c.fill-holding.ensures.bodies in
+    counts-then runs c.args.pass after c.release-then-is_err.result
+    (counts-then runs c.args.pass c.steps.walk.holding after c.steps.invariant.bodies (counts-starved runs c.steps.walk.holding after told.0 told.2)) c.release-then-is_err.ensures.bodies
+
+pub returns-then-is_err-clause-told : goal.returns-then-is_err-clause-told
+returns-then-is_err-clause-told g c told =
+    absurd (c.in_default.ensures.tells.untold (subst (λ (p : PassState). IsKnownDone (g.K.BatchData.batch c.args.self.now.key) p.view c.args.index) (sym c.begin-holding.ensures.same) told))
+
+-- it is done, and the place that waits for it goes on
+pub steps-smaller : goal.steps-smaller
+steps-smaller g c =
+    let b = g.K.BatchData.batch c.args.self.now.key in
+    let s = spot c.steps.walk in
+    let after = c.fill-holding.result.0 in
+    let told = filled-all (g.K.BatchData.batch c.self.inside.key) s.at (g.K.Fills.runs c.self.inside.key s.at) c.steps.walk.holding.bodies after.bodies s.view after.view c.fill-holding.result.1
+    (sym c.is_err.ensures.value ∙ c.if-is_err.false) c.fill-holding.ensures.tells c.fill-holding.ensures.bodies in
+    (went-out b s.view after.view s.at s.next s.frames c.pop.new.self.items c.in-Some-pop.frame c.steps.invariant.runs.walks told.0 c.in-Some-pop.ensures.items).less
+
+pub steps-preserved : goal.steps-preserved
+steps-preserved g c =
+    let invariant = c.self.invariant in
+    let view = c.self.view_is in
+    let b = g.K.BatchData.batch c.args.self.now.key in
+    let runs = g.K.Fills.runs c.args.self.now.key in
+    let i = c.steps.invariant in
+    let p = c.steps.walk.holding in
+    let s = spot c.steps.walk in
+    let after = c.fill-holding.result.0 in
+    let counted : g.K.Fills.runs c.self.inside.key s.at ≡ runs s.at = cc in
+    let told = filled-all (g.K.BatchData.batch c.self.inside.key) s.at (g.K.Fills.runs c.self.inside.key s.at) p.bodies after.bodies s.view after.view c.fill-holding.result.1
+    (sym c.is_err.ensures.value ∙ c.if-is_err.false) c.fill-holding.ensures.tells c.fill-holding.ensures.bodies in
+    let same = c.fill-holding.ensures.same in
+    let frame = c.in-Some-pop.frame in record {
+      same_table = same.table ∙ i.same_table;
+      same = same-then c.args.pass p after i.same same;
+      bodies = counts-then runs c.args.pass p after i.bodies (counts-filled runs p after s.at told.0 (told.1 ∙ ap (counted_more p.bodies) counted));
+      runs = round b c.args.index c.args.pass.view s (at-spot after.view frame.index frame.next c.pop.new.self.items) i.runs
+          (went-out b s.view after.view s.at s.next s.frames c.pop.new.self.items frame i.runs.walks told.0 c.in-Some-pop.ensures.items);
+    }
+
+-- none waits
+pub end-requires-in-None : goal.end-requires-in-None
+end-requires-in-None g c =
+    let b = g.K.BatchData.batch c.args.self.now.key in
+    let s = spot c.steps.walk in
+    let after = c.fill-holding.result.0 in
+    let empty : c.steps.walk.stack.items ≡ [] = grind (arith, common_steps) in
+    let told = filled-all (g.K.BatchData.batch c.self.inside.key) s.at (g.K.Fills.runs c.self.inside.key s.at) c.steps.walk.holding.bodies after.bodies s.view after.view c.fill-holding.result.1
+    (sym c.is_err.ensures.value ∙ c.if-is_err.false) c.fill-holding.ensures.tells c.fill-holding.ensures.bodies in
+    over-idle b c.args.index c.args.pass.view after.view s c.steps.invariant.runs told.0 empty
+
+pub returns-in-None-clause-same : goal.returns-in-None-clause-same
+returns-in-None-clause-same g c =
+    let after = c.fill-holding.result.0 in
+    subst (λ (p : PassState). IsSamePass c.args.pass p) (sym c.end-in-None.ensures) (same-then c.args.pass c.steps.walk.holding after c.steps.invariant.same c.fill-holding.ensures.same)
+
+pub returns-in-None-clause-tells : goal.returns-in-None-clause-tells
+returns-in-None-clause-tells g c =
+    let b = g.K.BatchData.batch c.args.self.now.key in
+    let s = spot c.steps.walk in
+    let after = c.fill-holding.result.0 in
+    let empty : c.steps.walk.stack.items ≡ [] = grind (arith, common_steps) in
+    let told = filled-all (g.K.BatchData.batch c.self.inside.key) s.at (g.K.Fills.runs c.self.inside.key s.at) c.steps.walk.holding.bodies after.bodies s.view after.view c.fill-holding.result.1
+    (sym c.is_err.ensures.value ∙ c.if-is_err.false) c.fill-holding.ensures.tells c.fill-holding.ensures.bodies in
+    subst (λ (p : PassState). TriedMeans b c.args.index c.args.pass.view Done p.view) (sym c.end-in-None.ensures)
+    (over b c.args.index c.args.pass.view after.view s c.steps.invariant.runs told.0 empty)
+
+pub returns-in-None-clause-bodies : goal.returns-in-None-clause-bodies
+returns-in-None-clause-bodies g c =
+    let invariant = c.self.invariant in
+    let view = c.self.view_is in
+    let runs = g.K.Fills.runs c.args.self.now.key in
+    let p = c.steps.walk.holding in
+    let s = spot c.steps.walk in
+    let after = c.fill-holding.result.0 in
+    let counted : g.K.Fills.runs c.self.inside.key s.at ≡ runs s.at = cc in
+    let told = filled-all (g.K.BatchData.batch c.self.inside.key) s.at (g.K.Fills.runs c.self.inside.key s.at) p.bodies after.bodies s.view after.view c.fill-holding.result.1
+    (sym c.is_err.ensures.value ∙ c.if-is_err.false) c.fill-holding.ensures.tells c.fill-holding.ensures.bodies in
+    counts-to runs c.args.pass after c.end-in-None.result c.end-in-None.ensures
+    (counts-then runs c.args.pass p after c.steps.invariant.bodies (counts-filled runs p after s.at told.0 (told.1 ∙ ap (counted_more p.bodies) counted)))

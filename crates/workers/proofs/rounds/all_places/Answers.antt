@@ -1,7 +1,7 @@
 use Rattle.std.proofs.Common.{arith, inl, inr}
 use Rattle.std.proofs.lemmas.Bool.{cases_lt}
 use Rattle.workers.proofs.Going.{in_none}
-use Rattle.workers.proofs.sweep.all_places.Goals as goal
+use Rattle.workers.proofs.rounds.all_places.Goals as goal
 
 pub returns : goal.returns
 returns c =

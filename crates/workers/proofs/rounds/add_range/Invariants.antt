@@ -1,7 +1,7 @@
 use Rattle.std.proofs.Common.{◌≡◌, ◌⊎◌, ◌<◌, ◌≤◌, ◌+◌, ◌-◌, ℕ}
 use Rattle.std.specs.VecDeque.{deque_capacity, deque_len}
 use Rattle.words.specs.Views.{In}
-use Rattle.workers.proofs.sweep.add_range.Given as goal
+use Rattle.workers.proofs.rounds.add_range.Given as goal
 
 abbrev pub invariant-loop-index : goal.invariant-loop-index
 invariant-loop-index l = record {

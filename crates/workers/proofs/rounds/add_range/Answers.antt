@@ -2,7 +2,7 @@ use Rattle.std.proofs.Common.{◌≡◌, ℕ, ◌∙◌, arith, inl, inr, subst}
 use Rattle.std.proofs.lemmas.Bool.{cases_lt}
 use Rattle.words.specs.Views.{In}
 use Rattle.workers.proofs.Going.{in_last, in_old, in_old_or_last}
-use Rattle.workers.proofs.sweep.add_range.Goals as goal
+use Rattle.workers.proofs.rounds.add_range.Goals as goal
 
 pub loop-index-preserved : goal.loop-index-preserved
 loop-index-preserved c =

@@ -1,5 +1,5 @@
 use Rattle.workers.proofs.Going.{looked_on}
-use Rattle.workers.proofs.sweep.look.Goals as goal
+use Rattle.workers.proofs.rounds.look.Goals as goal
 
 pub returns : goal.returns
 returns g c =

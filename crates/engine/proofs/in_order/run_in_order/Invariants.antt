@@ -4,13 +4,13 @@ use Rattle.model_base.specs.declared.outcome.Outcome.{Outcome}
 use Rattle.engine.specs.RunState.{IsRunState}
 use Rattle.engine.specs.Running.{AddsFrom}
 use Rattle.filling.specs.FinishedRange.{AreOutcomes}
-use Rattle.engine.proofs.in_order.run_places.Given as goal
+use Rattle.engine.proofs.in_order.run_in_order.Given as goal
 
 -- the first places are run
 abbrev pub invariant-loop-index : goal.invariant-loop-index
 invariant-loop-index g l = record {
-  stands : IsRunState l.log.log.statements (l.range.start + l.index) l.state.chains l.state.book;
-  adds : AddsFrom l.range.start l.initial.state l.state;
-  came : (found : List Outcome) × (l.outcomes.items ≡ l.initial.outcomes.items ++ found) × AreOutcomes l.log.log.statements l.range.start l.index found;
+  stands : IsRunState l.log.log.statements (l.fn.range.start + l.index) l.state.chains l.state.book;
+  adds : AddsFrom l.fn.range.start l.initial.state l.state;
+  came : (found : List Outcome) × (l.outcomes.items ≡ l.initial.outcomes.items ++ found) × AreOutcomes l.log.log.statements l.fn.range.start l.index found;
   room : vec_len l.outcomes + (l.size - l.index) ≤ vec_capacity l.outcomes;
 }

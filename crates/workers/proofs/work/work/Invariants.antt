@@ -1,5 +1,5 @@
 use Rattle.workers.specs.Working.{AreLeft, GoesOn}
-use Rattle.workers.proofs.sweep.go_round.Given as goal
+use Rattle.workers.proofs.work.work.Given as goal
 
 abbrev pub invariant-loop : goal.invariant-loop
 invariant-loop g l = record {

@@ -1,8 +1,0 @@
-use Rattle.workers.specs.Working.{AreLeft, GoesOn}
-use Rattle.workers.proofs.sweep.sweep.Given as goal
-
-abbrev pub invariant-loop : goal.invariant-loop
-invariant-loop g l = record {
-  on : GoesOn l.fn.pass l.last;
-  left : AreLeft (g.K.BatchData.batch l.shared.key).size l.last.view.known l.rest.items;
-}
