@@ -1,6 +1,6 @@
 -- The mark, batch after batch.
 use Rattle.std.proofs.Common.{◌≡◌, ◌<◌, ◌≤◌, ◌+◌, ◌-◌, ◌*◌, ◌&&◌, ◌++◌, ◌∷◌, [], ℕ, zero, suc, Bool, true, List, length, refl, ap, sym, ◌∙◌, subst, arith, inl, inr}
-use Rattle.std.specs.Prelude.{◌==◌, min, nat_lt, nat_le, if◌then◌else◌}
+use Rattle.std.specs.Prelude.{◌==◌, min, nat_le, if◌then◌else◌}
 use Rattle.std.proofs.Math.Nat.{mul-sub}
 use Rattle.std.proofs.lemmas.Bool.{and_parts, cases_lt, le-ltb, leb-true, lt-ltb, ne_eqb}
 use Rattle.std.proofs.lemmas.List.{append-nil, length-append}
@@ -10,8 +10,8 @@ use Rattle.sequencer.specs.Whole.{IsWhole}
 use Rattle.bohm_base.specs.Collecting.{line_outcome, with_reading}
 use Rattle.bohm_base.specs.declared.collecting.LineOutcome.{LineOutcome}
 use Rattle.engine.specs.Engine.{Run, finished}
-use Rattle.batched_text.specs.Batching.{Deals, IsCounted, IsFilling, IsFresh, IsOpen, ReportsLines, Takes, lines_text}
-use Rattle.batched_text.specs.History.{IsCutBy, IsTrimmedBy, dropped_by}
+use Rattle.batched_text.specs.Batching.{Deals, IsCounted, IsFilling, IsFresh, IsOpen, ReportsAll, ReportsFirst, ReportsLines, Takes}
+use Rattle.batched_text.specs.History.{IsCutBy, IsTrimmedBy}
 use Rattle.batched_text.specs.Settings.{IsCut, IsTrimmed, are_within_limits, mark_behind}
 use Rattle.batched_text.specs.declared.batching.Batching.{Batching}
 use Rattle.batched_text.specs.declared.history.History.{History}
@@ -108,17 +108,6 @@ pub waits_for : (plan : Plan) (batching : Batching) → IsFilling plan batching
     → batching.engine.store.mark ≤ mark_behind plan.settings (finished batching.engine) (length batching.engine.log.statements)
 waits_for plan batching filling = mark_so_far plan.history plan.settings batching.engine filling.cut (omega (arith, filling.counted))
 
--- what a batch is reported as: the engine has run all that waited
-pub record IsReported (settings : Settings) (old new : Batching) : Type 0 where
-  pub log : new.engine.log ≡ old.engine.log
-  pub left : new.waiting.items ≡ []
-  pub number : new.number ≡ old.number
-  pub all : finished new.engine ≡ length old.engine.log.statements
-  pub mark : new.engine.store.mark
-      ≡ (if nat_lt (finished old.engine) (length old.engine.log.statements)
-      then mark_behind settings (finished old.engine) (length old.engine.log.statements)
-      else old.engine.store.mark)
-
 -- a batch may end: it is full, or may end early
 abbrev pub IsDue : History → Settings → Run → Type 0
 IsDue History.Kept settings run = finished run + settings.batch ≤ length run.log.statements
@@ -129,7 +118,7 @@ pub due : (history : History) (settings : Settings) (run : Run) (waiting : ℕ) 
 due History.Dropped settings run waiting full all = tt
 due History.Kept settings run waiting full all = omega (arith, full, all)
 
-module _ (plan : Plan) (old new : Batching) (reported : IsReported plan.settings old new) where
+module _ (plan : Plan) (old new : Batching) (reported : ReportsAll plan old new) where
   abbrev count : ℕ
   count = length old.engine.log.statements
 
@@ -169,9 +158,8 @@ module _ (plan : Plan) (old new : Batching) (reported : IsReported plan.settings
       ]
 
   -- the next batch, after one that is due
-  pub open_next : IsFilling plan old → IsDue plan.history plan.settings old.engine → new.engine.dropped ≡ dropped_by plan.history new.engine
-      → IsOpen plan new
-  open_next filling due kept =
+  open_next : IsFilling plan old → IsDue plan.history plan.settings old.engine → IsOpen plan new
+  open_next filling due =
       let some : 0 < plan.settings.batch = (limits plan.settings filling.within).batch_some in
       record {
         filling = record {
@@ -179,7 +167,7 @@ module _ (plan : Plan) (old new : Batching) (reported : IsReported plan.settings
           whole = subst IsWhole (sym reported.log) filling.whole;
           counted = subst (λ (ls : List LineOutcome). IsCounted new.engine ls) (sym reported.left) (omega (arith, counts, reported.all));
           few = subst (λ (ls : List LineOutcome). length ls < new.number) (sym reported.left) (omega (arith, filling.few, reported.number));
-          kept = kept;
+          kept = reported.kept;
           cut = cut_next plan.history filling.cut (omega (arith, filling.counted)) filling.most some due;
           most = omega (arith, counts, reported.all);
         };
@@ -221,29 +209,40 @@ module _ (plan : Plan) (old new : Batching) (reported : IsReported plan.settings
       trimmed_by plan.history filling.cut (omega (arith, filling.counted)) filling.most (limits plan.settings filling.within).batch_some
 
   -- all lines that waited are reported
-  pub reports_all : IsFilling plan old
-      → new.pending.items ≡ old.pending.items ++ lines_text old.engine.log (old.number - length old.waiting.items) (finished old.engine) old.waiting.items
-      → ReportsLines old.engine.log (finished old.engine) (finished new.engine) old.waiting.items new.waiting.items old.number old.pending.items new.pending.items
-  reports_all filling told = record {
-    out = old.waiting.items;
-    all = sym (append-nil old.waiting.items) ∙ ap (λ (ls : List LineOutcome). old.waiting.items ++ ls) (sym reported.left);
-    first = old.number - length old.waiting.items;
-    number = omega (arith, filling.few);
-    told = told;
-    places = reported.all ∙ sym filling.counted;
+  pub reports_all : IsFilling plan old → IsDue plan.history plan.settings old.engine → ReportsFirst plan old new
+  reports_all filling due = record {
+    log = reported.log;
+    number = reported.number;
+    lines = record {
+      out = old.waiting.items;
+      all = sym (append-nil old.waiting.items) ∙ ap (λ (ls : List LineOutcome). old.waiting.items ++ ls) (sym reported.left);
+      first = old.number - length old.waiting.items;
+      number = omega (arith, filling.few);
+      told = reported.told;
+      places = reported.all ∙ sym filling.counted;
+    };
+    room = open_next filling due;
   }
 
+-- where nothing is kept a batch may end before it is full
+pub reports_early : (plan : Plan) (old new : Batching) → IsFilling plan old → plan.history ≡ History.Dropped → ReportsAll plan old new → ReportsFirst plan old new
+reports_early plan old new filling dropped reported =
+    reports_all plan old new reported filling (subst (λ (history : History). IsDue history plan.settings old.engine) (sym dropped) tt)
+
 -- none is reported
-pub reports_none : (batching : Batching) → length batching.waiting.items < batching.number
-    → ReportsLines batching.engine.log (finished batching.engine) (finished batching.engine) batching.waiting.items batching.waiting.items batching.number
-    batching.pending.items batching.pending.items
-reports_none batching few = record {
-  out = [];
-  all = refl;
-  first = batching.number - length batching.waiting.items;
-  number = omega (arith, few);
-  told = sym (append-nil batching.pending.items);
-  places = omega arith;
+pub reports_none : (plan : Plan) (batching : Batching) → IsOpen plan batching → ReportsFirst plan batching batching
+reports_none plan batching room = record {
+  log = refl;
+  number = refl;
+  lines = record {
+    out = [];
+    all = refl;
+    first = batching.number - length batching.waiting.items;
+    number = omega (arith, room.filling.few);
+    told = sym (append-nil batching.pending.items);
+    places = omega arith;
+  };
+  room = room;
 }
 
 -- more statements change nothing of what is finished
@@ -269,22 +268,20 @@ filled plan old new reading room takes whole =
     }
 
 -- a line that was taken, and what was reported then
-pub dealt : (reading : ParsedLine) (old taken new : Batching) → Takes reading old taken → new.engine.log ≡ taken.engine.log → new.number ≡ taken.number
-    → ReportsLines taken.engine.log (finished taken.engine) (finished new.engine) taken.waiting.items new.waiting.items taken.number taken.pending.items new.pending.items
-    → Deals reading old new
-dealt reading old taken new takes log number reports =
+pub dealt : (plan : Plan) (reading : ParsedLine) (old taken new : Batching) → Takes reading old taken → ReportsFirst plan taken new → Deals reading old new
+dealt plan reading old taken new takes put =
     let done : finished taken.engine ≡ finished old.engine = ap finished takes.engine in
     let lines : List LineOutcome = old.waiting.items ++ line_outcome old.engine.log.names reading ∷ [] in
-    let put : Accepted → ℕ → List LineOutcome → ℕ → List ℕ → Type 0 =
+    let P : Accepted → ℕ → List LineOutcome → ℕ → List ℕ → Type 0 =
     λ l d ls n pending. ReportsLines l d (finished new.engine) ls new.waiting.items n pending new.pending.items in
     record {
-      log = log ∙ ap (λ (run : Run). run.log) takes.engine;
-      number = number ∙ takes.number;
-      reports = subst (λ (l : Accepted). put l (finished old.engine) lines new.number old.pending.items) (sym log)
-          (subst (λ (n : ℕ). put taken.engine.log (finished old.engine) lines n old.pending.items) (sym number)
-          (subst (λ (pending : List ℕ). put taken.engine.log (finished old.engine) lines taken.number pending) takes.pending
-          (subst (λ (ls : List LineOutcome). put taken.engine.log (finished old.engine) ls taken.number taken.pending.items) takes.waiting
-          (subst (λ (n : ℕ). put taken.engine.log n taken.waiting.items taken.number taken.pending.items) done reports))));
+      log = put.log ∙ ap (λ (run : Run). run.log) takes.engine;
+      number = put.number ∙ takes.number;
+      reports = subst (λ (l : Accepted). P l (finished old.engine) lines new.number old.pending.items) (sym put.log)
+          (subst (λ (n : ℕ). P taken.engine.log (finished old.engine) lines n old.pending.items) (sym put.number)
+          (subst (λ (pending : List ℕ). P taken.engine.log (finished old.engine) lines taken.number pending) takes.pending
+          (subst (λ (ls : List LineOutcome). P taken.engine.log (finished old.engine) ls taken.number taken.pending.items) takes.waiting
+          (subst (λ (n : ℕ). P taken.engine.log n taken.waiting.items taken.number taken.pending.items) done put.lines))));
     }
 
 -- before the first batch

@@ -122,3 +122,14 @@ pub writes_never : {A : Type 0} {workers : ℕ} (fault : EngineFault) (result : 
 writes_never fault (Ok value) same stops = absurd same
 writes_never fault (Err other) same (inl memory) = λ is. cc (sym is ∙ same ∙ memory)
 writes_never fault (Err other) same (inr start) = λ is. cc (sym is ∙ same ∙ start.0)
+
+-- a failure of the writer is counted as its own, and not as the reader's
+pub reads_failed : (A : Type 0) (result : Result A EngineFault) (errors : ℕ) → IsErrAnd result (λ other. other ≡ EngineFault.Write)
+    → errors ≡ read_errors result errors
+reads_failed A (Ok value) errors same = absurd same
+reads_failed A (Err other) errors same = sym (ap (λ (f : EngineFault). read_errors {A = A} (Err f) errors) same)
+
+pub writes_failed : (A : Type 0) (result : Result A EngineFault) (errors : ℕ) → IsErrAnd result (λ other. other ≡ EngineFault.Write)
+    → raised errors ≡ write_errors result errors
+writes_failed A (Ok value) errors same = absurd same
+writes_failed A (Err other) errors same = sym (ap (λ (f : EngineFault). write_errors {A = A} (Err f) errors) same)

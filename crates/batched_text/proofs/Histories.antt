@@ -1,5 +1,5 @@
 -- How many places were dropped, as the run goes on.
-use Rattle.std.proofs.Common.{◌≡◌, List, [], sym, ◌∙◌}
+use Rattle.std.proofs.Common.{◌≡◌, List, [], subst, sym, ◌∙◌}
 use Rattle.bohm_base.specs.declared.collecting.LineOutcome.{LineOutcome}
 use Rattle.engine.specs.Engine.{Run, finished}
 use Rattle.batched_text.specs.History.{KeepsAll, NoneWait, dropped_by}
@@ -24,3 +24,7 @@ keeps_all History.Dropped old new same kept = tt
 pub none_wait : (history : History) (waiting : List LineOutcome) → waiting ≡ [] → NoneWait history waiting
 none_wait History.Kept waiting none = tt
 none_wait History.Dropped waiting none = none
+
+-- where all is kept, lines may wait
+pub may_wait : (history : History) (waiting : List LineOutcome) → history ≡ History.Kept → NoneWait history waiting
+may_wait history waiting kept = subst (λ (h : History). NoneWait h waiting) (sym kept) tt

@@ -5,14 +5,13 @@ use Rattle.std.proofs.lemmas.List.{append-nil}
 use Rattle.line_io.specs.Known.{AppendsFront, ReadSome}
 use Rattle.line_io.proofs.Pieces.{read_none}
 use Rattle.line_io.proofs.Written.{front_kept}
-use Rattle.report.specs.Report.{IsReport}
 use Rattle.report.proofs.Readings.{IsTotal}
 use Rattle.sequencer.specs.Log.{Accepted}
 use Rattle.bohm_base.specs.declared.collecting.LineOutcome.{LineOutcome}
 use Rattle.bohm_base.specs.Pending.{HasBegunReport, HasReport}
 use Rattle.bohm_base.proofs.Beginnings.{nothing_written}
 use Rattle.bohm_base.proofs.Reached.{begun_start, front_written}
-use Rattle.batched_text.specs.Batching.{Batched, BatchedUpTo, Gathers, HasBegunReportOfRead, IsBatched}
+use Rattle.batched_text.specs.Batching.{Batched, BatchedUpTo, Gathers, HasBegunReportOfRead, IsBatched, WritesBegunReportOfRead}
 use Rattle.batched_text.specs.Foretold.{BeginsFrom}
 use Rattle.batched_text.specs.ReadBytes.{IfRead}
 use Rattle.batched_text.specs.declared.batching.Batching.{Batching}
@@ -78,16 +77,16 @@ read_begun_cut (Some xs) k o n m pending less begun front none =
 
 -- what was pending at the end is written, or a front of it
 pub read_written : (i k o n m : Option (List ℕ)) (pending : List ℕ) → HasBegunReportOfRead i k o n pending → AppendsFront n m pending
-    → IfRead i k (λ given. (text : List ℕ) × (IsReport given text × AppendsFront o m text))
+    → WritesBegunReportOfRead i k o m
 read_written None k o n m pending begun front = tt
 read_written (Some xs) k o n m pending begun front = (begun.0, (begun.1.0, front_written (Some begun.0) o n m pending begun.1.1 front))
 
 pub read_kept_written : (i k o n m l : Option (List ℕ)) (pending : List ℕ) → HasBegunReportOfRead i k o n pending → AppendsFront n m pending → Keeps m l
-    → IfRead i k (λ given. (text : List ℕ) × (IsReport given text × AppendsFront o l text))
+    → WritesBegunReportOfRead i k o l
 read_kept_written i k o n m l pending begun front keeps = read_written i k o n l pending begun (front_kept n m l pending front keeps)
 
 -- nothing was read or written
-pub read_nothing : IsTotal → (i o : Option (List ℕ)) → IfRead i i (λ given. (text : List ℕ) × (IsReport given text × AppendsFront o o text))
+pub read_nothing : IsTotal → (i o : Option (List ℕ)) → WritesBegunReportOfRead i i o o
 read_nothing total None o = tt
 read_nothing total (Some xs) o = ([], (refl, nothing_written total (Some []) o))
 

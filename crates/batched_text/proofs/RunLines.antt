@@ -14,7 +14,7 @@ use Rattle.read_ahead.proofs.Cut.{took_at}
 use Rattle.bohm_base.specs.Pending.{HasBegunReport}
 use Rattle.bohm_base.specs.declared.fault.EngineFault.{EngineFault}
 use Rattle.engine.specs.Engine.{finished}
-use Rattle.batched_text.specs.Batching.{Deals, IsBatchReady, IsOpen, ReportsLines}
+use Rattle.batched_text.specs.Batching.{Deals, IsBatchReady, IsOpen, ReportsFirst}
 use Rattle.batched_text.specs.Faults.{IsOfBatch}
 use Rattle.batched_text.specs.Foretold.{BeginsFrom, IsReadyAt, Runs, TakesAt, TakesFrom, log_names}
 use Rattle.batched_text.specs.declared.batching.Batching.{Batching}
@@ -87,21 +87,19 @@ module _ (plan : Plan) (buffered : Buffered) where
 
   -- one line, which was taken, and then its batch was reported if that is full
   pub runs_line : (from count : ℕ) (old mid new : Batching) → IsReadyAt plan old buffered from → TakesAt buffered.bytes.now from count old mid
-      → new.engine.log ≡ mid.engine.log → new.number ≡ mid.number
-      → ReportsLines mid.engine.log (finished mid.engine) (finished new.engine) mid.waiting.items new.waiting.items mid.number mid.pending.items new.pending.items
-      → IsOpen plan new → Runs plan buffered from old new (Ok (from + count))
-  runs_line from count old mid new ready taken log number reports room =
-      let deals : Deals taken.reading old new = dealt taken.reading old mid new taken.takes log number reports in
+      → ReportsFirst plan mid new → Runs plan buffered from old new (Ok (from + count))
+  runs_line from count old mid new ready taken put =
+      let deals : Deals taken.reading old new = dealt plan taken.reading old mid new taken.takes put in
       let takes : TakesFrom buffered.bytes.now from (from + count) old new =
       λ behind input out held so.
       batched_step input (prepend_known (drop from buffered.bytes.now) behind) (prepend_known (drop (from + count) buffered.bytes.now) behind) out held taken.line taken.reading old new so
       (took_at buffered.bytes.now from count taken.line taken.at behind) taken.reads deals (within_open plan old ready.ready.room)
-      (record { whole = room.filling.whole; within = within_open plan new room }) in
+      (record { whole = put.room.filling.whole; within = within_open plan new put.room }) in
       record {
         within = taken.at.within;
         ready = record {
           ready = record {
-            room = room;
+            room = put.room;
             bounded = λ left. ready.ready.bounded (omega (arith, left));
             numbered = omega (arith, taken.at.some, taken.at.within, deals.number, ready.ready.numbered);
           };
@@ -144,25 +142,23 @@ module _ (plan : Plan) (buffered : Buffered) where
       subst (λ (f : EngineFault). Runs plan buffered from old new (Err f)) (sym is) runs
 
   -- the lines that wait are reported though their batch isn't full
-  pub runs_early : (from to : ℕ) (old mid new : Batching) → Runs plan buffered from old mid (Ok to) → new.engine.log ≡ mid.engine.log
-      → new.number ≡ mid.number
-      → ReportsLines mid.engine.log (finished mid.engine) (finished new.engine) mid.waiting.items new.waiting.items mid.number mid.pending.items new.pending.items
-      → IsOpen plan new → Runs plan buffered from old new (Ok to)
-  runs_early from to old mid new runs log number reports room =
+  pub runs_early : (from to : ℕ) (old mid new : Batching) → Runs plan buffered from old mid (Ok to) → ReportsFirst plan mid new
+      → Runs plan buffered from old new (Ok to)
+  runs_early from to old mid new runs put =
       let taken : TakesFrom buffered.bytes.now from to old new =
       λ behind input out held so.
-      batched_early input (prepend_known (drop to buffered.bytes.now) behind) out held mid new (runs.taken behind input out held so) log number reports
-      (record { whole = room.filling.whole; within = within_open plan new room }) in
+      batched_early input (prepend_known (drop to buffered.bytes.now) behind) out held mid new (runs.taken behind input out held so) put.log put.number put.lines
+      (record { whole = put.room.filling.whole; within = within_open plan new put.room }) in
       record {
         within = runs.within;
         ready = record {
-          ready = record { room = room; bounded = runs.ready.ready.bounded; numbered = omega (arith, runs.ready.ready.numbered, number) };
-          begun = omega (arith, runs.ready.begun, number);
+          ready = record { room = put.room; bounded = runs.ready.ready.bounded; numbered = omega (arith, runs.ready.ready.numbered, put.number) };
+          begun = omega (arith, runs.ready.begun, put.number);
         };
         taken = taken;
         begun = taken_begun buffered.bytes.now from to old new taken;
-        begins = subst (λ (l : Accepted). Begins (log_names old) l.names) (sym log) runs.begins;
-        version = ap (λ (l : Accepted). l.names.version) log ∙ runs.version;
+        begins = subst (λ (l : Accepted). Begins (log_names old) l.names) (sym put.log) runs.begins;
+        version = ap (λ (l : Accepted). l.names.version) put.log ∙ runs.version;
         err = tt;
       }
 

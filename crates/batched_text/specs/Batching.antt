@@ -1,19 +1,19 @@
 -- A text that is read, run and reported in batches.
-use Rattle.std.specs.Prelude.{◌≡◌, ◌≤◌, ◌<◌, ◌+◌, ◌++◌, ◌∷◌, [], ⊤, ℕ, Bool, true, false, IfSome, Result, Ok, List, Option, Some, None, length}
+use Rattle.std.specs.Prelude.{◌≡◌, ◌≤◌, ◌<◌, ◌+◌, ◌-◌, ◌++◌, ◌∷◌, [], ⊤, ℕ, Bool, true, false, IfSome, Result, Ok, List, Option, Some, None, length, nat_lt, if◌then◌else◌}
 use Rattle.std.specs.Io.KnownBytes.{Appends, Consumes, prepend_known}
 use Rattle.line_io.specs.declared.limits.TheConstants.{BUFFER_BYTES, MOST_GIVEN_BYTES}
 use Rattle.report.specs.Report.{ParsedLine}
 use Rattle.sequencer.specs.Log.{Accepted, empty_log}
 use Rattle.sequencer.specs.Whole.{IsWhole}
 use Rattle.bohm_base.specs.Collecting.{Collects, IsLogOf, AreReadBefore, line_outcome, report_text, with_reading}
-use Rattle.bohm_base.specs.Pending.{HasBegunReport}
+use Rattle.bohm_base.specs.Pending.{HasBegunReport, WritesBegunReport}
 use Rattle.bohm_base.specs.declared.collecting.LineOutcome.{LineOutcome}
 use Rattle.bohm_base.specs.declared.fault.EngineFault.{EngineFault}
 use Rattle.engine.specs.Engine.{Run, finished}
 use Rattle.batched_text.specs.Places.{places_in}
 use Rattle.batched_text.specs.History.{IsCutBy, dropped_by}
 use Rattle.batched_text.specs.ReadBytes.{IfRead}
-use Rattle.batched_text.specs.Settings.{are_within_limits}
+use Rattle.batched_text.specs.Settings.{are_within_limits, mark_behind}
 use Rattle.batched_text.specs.declared.batching.Batching.{Batching}
 use Rattle.batched_text.specs.declared.history.Plan.{Plan}
 
@@ -66,6 +66,31 @@ pub record IsFilling (plan : Plan) (batching : Batching) : Type 0 where
 pub record IsOpen (plan : Plan) (batching : Batching) : Type 0 where
   pub filling : IsFilling plan batching
   pub less : length batching.engine.log.statements < finished batching.engine + plan.settings.batch
+
+-- the first of the lines that waited were reported after what was pending, the others wait, and a further line has room
+pub record ReportsFirst (plan : Plan) (old new : Batching) : Type 0 where
+  pub log : new.engine.log ≡ old.engine.log
+  pub number : new.number ≡ old.number
+  pub lines :
+      ReportsLines old.engine.log (finished old.engine) (finished new.engine) old.waiting.items new.waiting.items
+      old.number old.pending.items new.pending.items
+  pub room : IsOpen plan new
+
+-- all lines that waited were reported after what was pending: their places were run as a batch, the rows trimmed after it if it has a
+-- place, and what is finished is kept or dropped as it is to be
+pub record ReportsAll (plan : Plan) (old new : Batching) : Type 0 where
+  pub log : new.engine.log ≡ old.engine.log
+  pub number : new.number ≡ old.number
+  pub left : new.waiting.items ≡ []
+  pub told :
+      new.pending.items ≡ old.pending.items
+      ++ lines_text old.engine.log (old.number - length old.waiting.items) (finished old.engine) old.waiting.items
+  pub all : finished new.engine ≡ length old.engine.log.statements
+  pub mark : new.engine.store.mark
+      ≡ (if nat_lt (finished old.engine) (length old.engine.log.statements)
+      then mark_behind plan.settings (finished old.engine) (length old.engine.log.statements)
+      else old.engine.store.mark)
+  pub kept : new.engine.dropped ≡ dropped_by plan.history new.engine
 
 -- no line was taken yet
 pub record IsFresh (batching : Batching) : Type 0 where
@@ -137,7 +162,7 @@ BatchedUpTo input rest out out_now batching =
     Batched input rest out out_now batching.pending.items batching.engine.log
     (finished batching.engine) batching.waiting.items batching.number
 
--- so it is where the run stands
+-- so it is where the run is
 abbrev pub BatchedTo : Option (List ℕ) → Option (List ℕ) → BatchedStanding → Type 0
 BatchedTo input out now = BatchedUpTo input now.rest out now.out now.batching
 
@@ -158,6 +183,10 @@ Gathers input left out_old out_now batching =
 abbrev pub HasBegunReportOfRead : Option (List ℕ) → Option (List ℕ) → Option (List ℕ) → Option (List ℕ) → List ℕ → Type 0
 HasBegunReportOfRead input left old now pending = IfRead input left (λ given. HasBegunReport (Some given) old now pending)
 
+-- after what the writer held comes a beginning of the report of what was read, and nothing else
+abbrev pub WritesBegunReportOfRead : Option (List ℕ) → Option (List ℕ) → Option (List ℕ) → Option (List ℕ) → Type 0
+WritesBegunReportOfRead input left old now = IfRead input left (λ given. WritesBegunReport (Some given) old now)
+
 -- what a turn resulted in by its answer, whatever input is batched: one more line was taken, or there was none; and in any case a beginning
 -- of the report is written, also of the report of what was read
 pub record BatchedTurn (plan : Plan) (result : Result Bool EngineFault)
@@ -168,15 +197,6 @@ pub record BatchedTurn (plan : Plan) (result : Result Bool EngineFault)
   pub begun : (input out : Option (List ℕ)) → BatchedTo input out old → HasBegunReport input out new.out new.batching.pending.items
   pub begun_read : (input out : Option (List ℕ)) → BatchedTo input out old
       → HasBegunReportOfRead input new.left out new.out new.batching.pending.items
-
--- what the turns to the end of the input resulted in, whatever input is batched
-pub record EndsBatching (plan : Plan) (result : Result (Unit {0}) EngineFault)
-    (old : BatchedStanding) (left out_now : Option (List ℕ)) (batching : Batching) : Type 0 where
-  pub room : result ≡ Ok tt → IsOpen plan batching
-  pub done : result ≡ Ok tt → (input out : Option (List ℕ)) → BatchedTo input out old → Gathers input left out out_now batching
-  pub begun : (input out : Option (List ℕ)) → BatchedTo input out old → HasBegunReport input out out_now batching.pending.items
-  pub begun_read : (input out : Option (List ℕ)) → BatchedTo input out old
-      → HasBegunReportOfRead input left out out_now batching.pending.items
 
 -- the log is that of the input
 abbrev pub IsLogOfText : Option (List ℕ) → Accepted → Type 0

@@ -14,6 +14,6 @@ abbrev pub of_batch : RunFault → TextFault
 of_batch RunFault.NoMemory = TextFault.NoMemory
 of_batch RunFault.Spawn = TextFault.Spawn
 
--- neither the reader nor the writer failed: memory was refused, or a thread for one of several workers could not be started
+-- neither the reader nor the writer failed: memory ran out, or a thread for one of several workers could not be started
 abbrev pub IsOfBatch : ℕ → TextFault → Type 0
 IsOfBatch workers fault = (fault ≡ TextFault.NoMemory) ⊎ ((fault ≡ TextFault.Spawn) × (1 < workers))

@@ -7,8 +7,9 @@ ghost use Rattle.report.specs.Report.{faulty, read};
 ghost use Rattle.batched_text.specs.Batching.{Takes};
 ghost use Rattle.batched_text.specs.Foretold.{IsReadyAt, Runs, TakesAt, WasReadAhead, WereReadAhead, log_names};
 
-use crate::batching::{Batching, report_early, report_full};
+use crate::batching::{Batching, report_batch, report_full};
 use crate::buffered::Buffered;
+use crate::history::History;
 use crate::lines::take_line;
 use crate::runner::Runner;
 use bohm_base::{EngineFault, LineOutcome};
@@ -71,7 +72,7 @@ fn take_next<'a>(
 }
 
 /// Takes a line by what was found of it before its turn, as `take_next`; a statement that was found is moved out. The line is read now
-/// where that told nothing, or where no place is left for its statement.
+/// where that gave nothing, or where no place is left for its statement.
 fn take_ahead<'a>(
     batching: &mut Batching,
     bytes: &'a [u8],
@@ -193,8 +194,8 @@ fn report_each<'a, T: Threads + Wait + Sync>(
 }
 
 /// Deals with lines that were read ahead, as `report_each`, as many at a time as a batch has places. Then it reports the lines that wait,
-/// unless all is kept, and gives back what was dropped: a statement stays with its line but for that time. So what a piece's statements hold
-/// lies in memory in the order in which it is read and filled again.
+/// unless all is kept, and gives back what was dropped: a statement stays with its line but for that time. So what a piece's statements
+/// hold lies in memory in the order in which it is read and filled again.
 pub(crate) fn report_foretold<'a, T: Threads + Wait + Sync>(
     runner: &Runner<T>,
     batching: &mut Batching,
@@ -211,7 +212,10 @@ pub(crate) fn report_foretold<'a, T: Threads + Wait + Sync>(
     let mut at = from;
     'groups: for group in lines.chunks_mut(runner.plan.settings.batch as usize) {
         at = report_each(runner, batching, buffered, group, at, raw)?;
-        report_early(runner, batching)?;
+        match runner.plan.history {
+            History::Kept => {}
+            History::Dropped => report_batch(runner, batching)?,
+        }
         give_back(&mut batching.engine, group);
     }
     Ok(at)

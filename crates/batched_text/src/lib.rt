@@ -25,12 +25,10 @@ mod settings;
 mod stretches;
 
 pub use laws::reports_stand;
+pub use lines::take_text;
 pub use lookahead::ReadingAhead;
-pub use quiet::{run_quietly, run_quietly_seeded};
-pub use reaching::{run_quietly_to, run_quietly_to_seeded};
+pub use quiet::run_quietly;
+pub use reaching::run_quietly_to;
 pub use reporting::{named_grantees, put_lines, put_place};
-pub use running::{
-    report_in_order, report_in_order_seeded, report_text, report_text_seeded, run_text,
-    run_text_seeded,
-};
+pub use running::{report_in_order, report_text, run_text};
 pub use settings::Settings;

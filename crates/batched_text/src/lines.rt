@@ -20,13 +20,14 @@ use std::sync::Wait;
 use std::thread::Threads;
 
 /// Takes the statement that a line was read as into the log if it is not refused, and says what the line became. After an error the
-/// statement is not refused.
+/// engine is as it was, and the statement is not refused.
 #[inline(always)]
 fn take_statement(engine: &mut Engine, raw: &LineBuffers<'_>) -> Result<LineOutcome, EngineFault>
     requires { IsInGrammar (sentence_of raw.now) }
     ensures line { IfOk result (λ line. line ≡ line_outcome engine.old.log.names (read (sentence_of raw.now))) }
     ensures engine { OnOk result (engine.new ≡ record engine.old { log = with_reading engine.old.log (read (sentence_of raw.now)) }) }
     ensures err { IfErr result (λ f. f ≡ EngineFault.NoMemory) }
+    ensures same { OnErr result (engine.new ≡ engine.old) }
     ensures want { OnErr result (LineMayLackMemory (line_outcome engine.old.log.names (read (sentence_of raw.now)))) }
 {
     match engine.push_read(raw) {
@@ -39,7 +40,7 @@ fn take_statement(engine: &mut Engine, raw: &LineBuffers<'_>) -> Result<LineOutc
 }
 
 /// Takes the statement that a line was read as into the log if it is one that is not refused, and says what the line became. After an
-/// error the line is neither a faulty nor a refused one.
+/// error the engine is as it was, and the line is neither a faulty nor a refused one.
 #[inline(always)]
 pub(crate) fn take_read(
     engine: &mut Engine,
@@ -52,6 +53,7 @@ pub(crate) fn take_read(
         ≡ record engine.old { log = with_reading engine.old.log (reading_by found (sentence_of raw.now)) }) }
     ensures told { OnOk result (found ≢ Err LineFault.NoMemory) }
     ensures err { IfErr result (λ f. f ≡ EngineFault.NoMemory) }
+    ensures same { OnErr result (engine.new ≡ engine.old) }
     ensures want { OnErr result (LineMayLackMemory (line_outcome engine.old.log.names (reading_by found (sentence_of raw.now)))) }
 {
     match found {
@@ -68,10 +70,10 @@ pub(crate) fn take_read(
 
 /// Reads a line in the version of the log, takes its statement into the log if it is one that is not refused, and says what the line
 /// became. If the first line is the heading of version 2, the log is of this version from then on. What a line reads as stays in the room
-/// that is lent.
+/// that is lent. An error means out of memory: the engine is as it was.
 #[inline(always)]
 #[tactic(auto, using(crate::proofs::LineReadings::in_grammar))]
-pub(crate) fn take_text<'a>(
+pub fn take_text<'a>(
     engine: &mut Engine,
     line: &'a [u8],
     is_first: bool,
@@ -81,6 +83,7 @@ pub(crate) fn take_text<'a>(
         × ((became ≡ line_outcome engine.old.log.names reading)
         × (engine.new ≡ record engine.old { log = with_reading engine.old.log reading })))) }
     ensures err { IfErr result (λ f. f ≡ EngineFault.NoMemory) }
+    ensures same { OnErr result (engine.new ≡ engine.old) }
 {
     if is_first && is_heading_line(line) {
         engine.set_version(Version::Two);

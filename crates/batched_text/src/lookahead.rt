@@ -1,15 +1,17 @@
 //! By what lines are read before their turn.
 
-ghost use Rattle.std.specs.Prelude.{◌≡◌, ◌≤◌, OnOk, true};
+ghost use Rattle.std.specs.Prelude.{◌≡◌, ◌≤◌, OnOk};
 ghost use Rattle.sequencer.specs.Catalog.{no_names};
 ghost use Rattle.sequencer.specs.Foretelling.{Begins};
 ghost use Rattle.batched_text.specs.Foretold.{IsReadyAt, Runs, log_names};
 
 use crate::batching::Batching;
 use crate::buffered::Buffered;
+use crate::foretold::report_until;
 use crate::runner::Runner;
 use crate::stretches::{Extent, Ran, run_ahead};
 use bohm_base::EngineFault;
+use log_text::LineBuffers;
 use model_base::HashSeed;
 use read_ahead::Piece;
 use sequencer::Catalog;
@@ -72,7 +74,7 @@ impl Lookahead {
     }
 
     /// Whether some of this many bytes of whole lines are read before their turn.
-    pub(crate) fn is_for(&self, bytes: usize) -> bool {
+    fn is_for(&self, bytes: usize) -> bool {
         self.ahead.threads > 0 && bytes >= self.ahead.least
     }
 
@@ -92,7 +94,7 @@ impl Lookahead {
         (bytes / self.ahead.piece.max(1)).max(least)
     }
 
-    /// Learns what was named. Where memory is refused it learns less.
+    /// Learns what was named. Where memory runs out it learns less.
     fn learn(&mut self, catalog: &Catalog)
         requires { Begins self.old.names catalog.now }
         ensures { Begins self.new.names catalog.now }
@@ -101,9 +103,9 @@ impl Lookahead {
     }
 }
 
-/// Deals with whole lines at the front of the bytes, a stretch of them, with lines read before their turn in the version of the log. It
-/// returns how many bytes those lines are.
-pub(crate) fn report_stretch<T: Threads + Wait + Sync>(
+/// Deals with whole lines at the front of the bytes: a stretch of them, with lines read before their turn in the version of the log, where
+/// threads are to do so and it pays, and otherwise all of them, which share one room. It returns how many bytes those lines are.
+pub(crate) fn deal_at_hand<T: Threads + Wait + Sync>(
     runner: &Runner<T>,
     lookahead: &mut Lookahead,
     batching: &mut Batching,
@@ -114,9 +116,14 @@ pub(crate) fn report_stretch<T: Threads + Wait + Sync>(
     ensures runs { Runs runner.now.plan buffered.now 0 batching.old batching.new result }
     ensures names { OnOk result (Begins lookahead.new.names (log_names batching.new)) }
 {
+    let len = buffered.bytes.len();
+    if !lookahead.is_for(len) {
+        let mut raw = LineBuffers::new(runner.alloc);
+        return report_until(runner, batching, buffered, 0, len, &mut raw);
+    }
     let version = batching.engine.log().catalog().version();
     lookahead.names.set_version(version);
-    let to = lookahead.next_stretch(buffered.bytes.len());
+    let to = lookahead.next_stretch(len);
     let extent = Extent {
         to,
         pieces: lookahead.pieces_of(to),

@@ -125,35 +125,20 @@ fn run_lines<T: Threads + Wait + Sync, R: Read>(
 }
 
 /// Reads a log to its end, runs it by one worker in batches of 1,024 places, and makes no report. It returns the engine with the log, all
-/// of it finished; before the last place of the log no rows are kept.
+/// of it finished; before the last place of the log no rows are kept. Maps find their keys under `seed`.
 ///
 /// `Read` comes exactly where the reader failed, `NoMemory` where a growth was refused.
 pub fn run_quietly<T: Threads + Wait + Sync, R: Read>(
     rt: &T,
     alloc: Global,
     reader: &mut Counted<R>,
+    seed: HashSeed,
 ) -> Result<Engine, ReadFault>
     // The engine has the log of what was read, all of it finished and nothing of it dropped.
     ensures log { IfOk result (λ engine. IsLogOfText (R.remaining reader.old.inner) engine.log) }
     ensures all { IfOk result (λ engine. finished engine ≡ length engine.log.statements) }
     ensures kept { IfOk result (λ engine. engine.dropped ≡ 0) }
     // Read says that the reader failed, and nothing else does.
-    ensures read { result ≡ Err ReadFault.Read → reader.new.errors ≡ raised reader.old.errors }
-    ensures other { (result ≡ Err ReadFault.Read → ⊥) → reader.new.errors ≡ reader.old.errors }
-{
-    run_quietly_seeded(rt, alloc, reader, HashSeed::fixed())
-}
-
-/// The same, by maps that find their keys under this seed.
-pub fn run_quietly_seeded<T: Threads + Wait + Sync, R: Read>(
-    rt: &T,
-    alloc: Global,
-    reader: &mut Counted<R>,
-    seed: HashSeed,
-) -> Result<Engine, ReadFault>
-    ensures log { IfOk result (λ engine. IsLogOfText (R.remaining reader.old.inner) engine.log) }
-    ensures all { IfOk result (λ engine. finished engine ≡ length engine.log.statements) }
-    ensures kept { IfOk result (λ engine. engine.dropped ≡ 0) }
     ensures read { result ≡ Err ReadFault.Read → reader.new.errors ≡ raised reader.old.errors }
     ensures other { (result ≡ Err ReadFault.Read → ⊥) → reader.new.errors ≡ reader.old.errors }
 {

@@ -28,7 +28,8 @@ fn take_first<R: Read>(
     requires first { engine.old.log ≡ empty_log }
     requires ahead { ahead lines.old ≡ [] }
     ensures taken { IfOk result (λ more. (place : ℕ) → MatchBool more
-        (HasTaken false (R.remaining reader.old.inner) (prepend_known (ahead lines.new) (R.remaining reader.new.inner)) place engine.new.log)
+        (HasTaken false (R.remaining reader.old.inner) (prepend_known (ahead lines.new) (R.remaining reader.new.inner))
+        place engine.new.log)
         (EndsTaking (R.remaining reader.old.inner) place engine.new.log)) }
     ensures none { result ≡ Ok false → engine.new ≡ engine.old }
     ensures kept { OnOk result (engine.new.dropped ≡ engine.old.dropped) }
@@ -74,8 +75,8 @@ fn take_until<R: Read>(
     Ok(true)
 }
 
-/// Takes lines after the first until the log has a place, but no more than a batch of them, and runs the places that wait. False once the log has the
-/// place, or has all lines of the input.
+/// Takes lines after the first until the log has a place, but no more than a batch of them, and runs the places that wait. False once the
+/// log has the place, or has all lines of the input.
 fn run_some<T: Threads + Wait + Sync, R: Read>(
     rt: &T,
     alloc: Global,
@@ -133,7 +134,8 @@ fn run_until<T: Threads + Wait + Sync, R: Read>(
 
 /// Reads a log up to the line of a place, or to its end where it hasn't the place or none is named; runs what it read by one worker, in
 /// batches of 1,024 places; and makes no report. It returns the engine with the log up to there, all of it finished. Of its
-/// statements and outcomes those of the last batch are kept, the named place's among them, and no rows before its end.
+/// statements and outcomes those of the last batch are kept, the named place's among them, and no rows before its end. Maps find their keys
+/// under `seed`.
 ///
 /// No line after that of the place is taken, and the reader isn't asked for more once that line is available: a line after it that can't be
 /// read, and a reader that fails later, are never met.
@@ -144,6 +146,7 @@ pub fn run_quietly_to<T: Threads + Wait + Sync, R: Read>(
     alloc: Global,
     reader: &mut Counted<R>,
     limit: Option<Place>,
+    seed: HashSeed,
 ) -> Result<Engine, ReadFault>
     // The engine has the log of what was read up to the place, or all of it, and all of that is finished.
     ensures log { IfOk result (λ engine. IsLogUpTo (R.remaining reader.old.inner) limit engine.log) }
@@ -152,24 +155,6 @@ pub fn run_quietly_to<T: Threads + Wait + Sync, R: Read>(
     // The place's statement and outcome aren't dropped.
     ensures kept { IfOk result (λ engine. IfSome limit (λ place. engine.dropped ≤ place)) }
     // Read says that the reader failed, and nothing else does.
-    ensures read { result ≡ Err ReadFault.Read → reader.new.errors ≡ raised reader.old.errors }
-    ensures other { (result ≡ Err ReadFault.Read → ⊥) → reader.new.errors ≡ reader.old.errors }
-{
-    run_quietly_to_seeded(rt, alloc, reader, limit, HashSeed::fixed())
-}
-
-/// The same, by maps that find their keys under this seed.
-pub fn run_quietly_to_seeded<T: Threads + Wait + Sync, R: Read>(
-    rt: &T,
-    alloc: Global,
-    reader: &mut Counted<R>,
-    limit: Option<Place>,
-    seed: HashSeed,
-) -> Result<Engine, ReadFault>
-    ensures log { IfOk result (λ engine. IsLogUpTo (R.remaining reader.old.inner) limit engine.log) }
-    ensures all { IfOk result (λ engine. finished engine ≡ length engine.log.statements) }
-    ensures whole { IfOk result (λ engine. IsWhole engine.log) }
-    ensures kept { IfOk result (λ engine. IfSome limit (λ place. engine.dropped ≤ place)) }
     ensures read { result ≡ Err ReadFault.Read → reader.new.errors ≡ raised reader.old.errors }
     ensures other { (result ≡ Err ReadFault.Read → ⊥) → reader.new.errors ≡ reader.old.errors }
 {

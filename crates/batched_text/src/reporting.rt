@@ -1,7 +1,6 @@
 //! The report's lines for the lines of a batch.
 
-ghost use Rattle.std.specs.Prelude.{◌≡◌, ◌<◌, ◌≤◌, ◌+◌, ◌++◌, ◌^◌, IfOk, OnOk, Some, drop, length, slice_get};
-ghost use Rattle.model_base.specs.Outcomes.{outcome};
+ghost use Rattle.std.specs.Prelude.{◌≡◌, ◌<◌, ◌≤◌, ◌+◌, ◌++◌, ◌^◌, IfOk, OnOk, drop, length};
 ghost use Rattle.model_base.specs.RecordGrantees.{WereGranted};
 ghost use Rattle.report.specs.Report.{place_text};
 ghost use Rattle.report.specs.Text.{HaveGrantees};
@@ -9,7 +8,7 @@ ghost use Rattle.bohm_base.specs.Collecting.{line_outcome_text, places_of};
 ghost use Rattle.engine.specs.Engine.{IsRun, finished};
 ghost use Rattle.sequencer.specs.Whole.{IsWhole};
 ghost use Rattle.batched_text.specs.Batching.{lines_text};
-ghost use Rattle.batched_text.specs.Places.{places_in};
+ghost use Rattle.batched_text.specs.Places.{IsFinishedAs, places_in};
 
 use bohm_base::LineOutcome;
 use engine::Engine;
@@ -25,6 +24,7 @@ pub fn named_grantees(
     engine: &Engine,
     names: &[RecordName],
 ) -> Result<Vec<Grantee>, AllocError>
+    // In version 1 this holds of any grantees, also where the records were not granted.
     ensures { IfOk result (λ grantees. WereGranted engine.now.log.statements (finished engine.now) names.now
         → HaveGrantees engine.now.log.names.version engine.now.log.statements names.now grantees.items) }
 {
@@ -34,7 +34,7 @@ pub fn named_grantees(
     }
 }
 
-/// Appends the report's line for a place by its statement and its outcome, where the version of the log has grantees written.
+/// Appends the report's line for a place by its statement, its outcome and the grantees of the records that it lists.
 #[inline(never)]
 fn put_named(
     alloc: Global,
@@ -45,12 +45,10 @@ fn put_named(
     found: &Outcome,
 ) -> Result<(), AllocError>
     requires whole { IsWhole engine.now.log }
-    requires statement { slice_get engine.now.log.statements place ≡ Some statement.now }
-    requires found { outcome engine.now.log.statements place ≡ Some found.now }
-    requires within { place < finished engine.now }
+    requires finished { IsFinishedAs engine.now place statement.now found.now }
     ensures { OnOk result (text.new.items ≡ text.old.items ++ place_text engine.now.log.statements engine.now.log.names place) }
 {
-    let grantees = named_grantees(alloc, engine, records_of(found))?;
+    let grantees = engine.grantees_of(alloc, records_of(found))?;
     let catalog = engine.log().catalog();
     put_outcome(text, catalog, place, &statement.form, found, &grantees)
 }
@@ -66,9 +64,7 @@ fn put_finished(
     found: &Outcome,
 ) -> Result<(), AllocError>
     requires whole { IsWhole engine.now.log }
-    requires statement { slice_get engine.now.log.statements place ≡ Some statement.now }
-    requires found { outcome engine.now.log.statements place ≡ Some found.now }
-    requires within { place < finished engine.now }
+    requires finished { IsFinishedAs engine.now place statement.now found.now }
     ensures { OnOk result (text.new.items ≡ text.old.items ++ place_text engine.now.log.statements engine.now.log.names place) }
 {
     let catalog = engine.log().catalog();

@@ -1,34 +1,29 @@
 //! A log, read, run in batches, and reported as batches finish.
 
-ghost use Rattle.std.specs.Prelude.{◌≡◌, ◌≢◌, ◌<◌, ◌≤◌, ◌+◌, ◌-◌, ◌^◌, ◌↔◌, ℕ, [], false, true, List, Option, IfErr, IfOk, IfSome, MatchBool, OnErr, OnOk, Err, Ok, length};
-ghost use Rattle.std.specs.Io.KnownBytes.{Appends, IsAtEnd, Keeps, prepend_known};
-ghost use Rattle.line_io.specs.Ahead.{ahead, found_line};
-ghost use Rattle.line_io.specs.Known.{AppendsFront, HadSome, ReadSome, TookLine, raised};
-ghost use Rattle.report.specs.Report.{IsReport};
+ghost use Rattle.std.specs.Prelude.{◌≡◌, ◌≢◌, ◌<◌, ◌≤◌, ◌-◌, ◌^◌, ◌↔◌, ℕ, [], false, true, List, Option, IfErr, IfOk, OnErr, OnOk, Err, Ok, length};
+ghost use Rattle.std.specs.Io.KnownBytes.{Keeps};
+ghost use Rattle.line_io.specs.Ahead.{ahead};
+ghost use Rattle.line_io.specs.Known.{raised};
 ghost use Rattle.bohm_base.specs.Faults.{read_errors, write_errors};
-ghost use Rattle.bohm_base.specs.Pending.{HasBegunReport, HasReport};
+ghost use Rattle.bohm_base.specs.Pending.{HasBegunReport, HasReport, WritesBegunReport, WritesReport};
 ghost use Rattle.sequencer.specs.Foretelling.{Begins};
 ghost use Rattle.engine.specs.Engine.{finished};
-ghost use Rattle.batched_text.specs.Batching.{BatchedTurn, EndsBatching, Gathers, HasBegunReportOfRead, IsBatchReady, IsFresh, IsLogOfText, IsOpen, standing_at};
+ghost use Rattle.batched_text.specs.Batching.{BatchedTurn, HasBegunReportOfRead, IsBatchReady, IsFresh, IsLogOfText, WritesBegunReportOfRead, standing_at};
 ghost use Rattle.batched_text.specs.Faults.{of_text};
-ghost use Rattle.batched_text.specs.Foretold.{IsReadyAt, Runs, log_names};
+ghost use Rattle.batched_text.specs.Foretold.{log_names};
 ghost use Rattle.batched_text.specs.History.{IsTrimmedBy, NoneWait, dropped_by};
-ghost use Rattle.batched_text.specs.ReadBytes.{IfRead};
 ghost use Rattle.batched_text.specs.Settings.{IsTrimmed, are_within_limits};
 
-use crate::batching::{Batching, report_batch, report_early};
+use crate::batching::{Batching, report_batch};
 use crate::buffered::Buffered;
-use crate::foretold::report_until;
 use crate::history::History;
 use crate::lines::deal;
-use crate::lookahead::{Lookahead, ReadingAhead, report_stretch};
+use crate::lookahead::{Lookahead, ReadingAhead, deal_at_hand};
 use crate::runner::Runner;
 use crate::settings::{Settings, are_within_limits};
-use bohm_base::{EngineFault as TextFault, LineOutcome};
+use bohm_base::EngineFault as TextFault;
 use engine::{Engine, EngineFault};
-use line_io::{
-    BUFFER_BYTES, Counted, LineReader, MOST_GIVEN_BYTES, ReadFault, flush, write_out, write_pending,
-};
+use line_io::{Counted, LineReader, flush, write_out, write_pending};
 use log_text::LineBuffers;
 use model_base::HashSeed;
 use std::alloc::{AllocError, Global};
@@ -52,36 +47,8 @@ const IN_ORDER: Settings = Settings {
     keep: 0,
 };
 
-/// Finds the next line, as `LineReader::next_line`. It is called only while nothing of the report is pending and, where nothing is
-/// kept, while no line waits: so each line is answered before the reader is asked for the next one.
-fn next_line<R: Read>(
-    reader: &mut Counted<R>,
-    lines: &mut LineReader,
-    history: History,
-    waiting: &[LineOutcome],
-    pending: &[u8],
-) -> Result<bool, ReadFault>
-    requires none { NoneWait history waiting.now }
-    requires nothing { pending.now ≡ [] }
-    requires bounded { 0 < length (ahead lines.old) → reader.old.given ≤ MOST_GIVEN_BYTES + BUFFER_BYTES }
-    ensures line { IfOk result (λ found. MatchBool found
-        (TookLine (prepend_known (ahead lines.old) (R.remaining reader.old.inner))
-        (prepend_known (ahead lines.new) (R.remaining reader.new.inner))
-        [] (found_line lines.new)
-        × HadSome (prepend_known (ahead lines.old) (R.remaining reader.old.inner)))
-        (IsAtEnd (prepend_known (ahead lines.old) (R.remaining reader.old.inner)))) }
-    ensures left { ReadSome (R.remaining reader.old.inner) (R.remaining reader.new.inner) }
-    ensures read { result ≡ Err ReadFault.Read → reader.new.errors ≡ raised reader.old.errors }
-    ensures other { (result ≡ Err ReadFault.Read → ⊥) → reader.new.errors ≡ reader.old.errors }
-    ensures given { IfOk result (λ found. MatchBool found
-        ((reader.old.given + length (ahead lines.new) < reader.new.given + length (ahead lines.old))
-        × (reader.new.given ≤ MOST_GIVEN_BYTES + BUFFER_BYTES))
-        (reader.new.given ≡ reader.old.given)) }
-{
-    lines.next_line(reader)
-}
-
-/// Takes the next line, and reports its batch if that is full. False at the end of the input.
+/// Takes the next line, and reports its batch if that is full. False at the end of the input. It is called only while nothing of the
+/// report is pending and, where nothing is kept, while no line waits: so each line is answered before the reader is asked for the next one.
 #[tactic(auto, using(crate::proofs::Faults::several_told, crate::proofs::Faults::several_kept))]
 fn report_line<T: Threads + Wait + Sync, R: Read>(
     runner: &Runner<T>,
@@ -100,106 +67,12 @@ fn report_line<T: Threads + Wait + Sync, R: Read>(
     ensures err { IfErr result (λ f. f ≢ TextFault.Write) }
     ensures alone { IfErr result (λ f. f ≡ TextFault.Spawn → 1 < runner.now.plan.settings.workers) }
 {
-    if !next_line(
-        reader,
-        lines,
-        runner.plan.history,
-        &batching.waiting,
-        &batching.pending,
-    )? {
+    if !lines.next_line(reader)? {
         return Ok(false);
     }
     let mut raw = LineBuffers::new(runner.alloc);
     deal(runner, batching, lines.line(), &mut raw)?;
     Ok(true)
-}
-
-/// Deals with whole lines at the front of the bytes: a stretch of them, with lines read before their turn, where threads are to do so
-/// and it pays, and otherwise all of them, which share one room. It returns how many bytes those lines are.
-fn deal_at_hand<T: Threads + Wait + Sync>(
-    runner: &Runner<T>,
-    lookahead: &mut Lookahead,
-    batching: &mut Batching,
-    buffered: &Buffered,
-) -> Result<usize, TextFault>
-    requires begins { Begins lookahead.old.names (log_names batching.old) }
-    requires ready { IsReadyAt runner.now.plan batching.old buffered.now 0 }
-    ensures runs { Runs runner.now.plan buffered.now 0 batching.old batching.new result }
-    ensures names { OnOk result (Begins lookahead.new.names (log_names batching.new)) }
-{
-    let to = buffered.bytes.len();
-    if lookahead.is_for(to) {
-        return report_stretch(runner, lookahead, batching, buffered);
-    }
-    let mut raw = LineBuffers::new(runner.alloc);
-    report_until(runner, batching, buffered, 0, to, &mut raw)
-}
-
-/// Takes the next line, as `report_line`, and then whole buffered lines, as `deal_at_hand`. Then it reports the lines that wait, unless
-/// all is kept, and writes what is pending of the report.
-#[tactic(auto, using(crate::proofs::Faults::several_told, crate::proofs::Faults::several_kept))]
-fn report_turn<T: Threads + Wait + Sync, R: Read, W: Write>(
-    runner: &Runner<T>,
-    reader: &mut Counted<R>,
-    writer: &mut Counted<W>,
-    lines: &mut LineReader,
-    lookahead: &mut Lookahead,
-    batching: &mut Batching,
-) -> Result<bool, TextFault>
-    requires ready { IsBatchReady runner.now.plan batching.old (length (ahead lines.old)) reader.old.given }
-    requires nothing { batching.old.pending.items ≡ [] }
-    requires none { NoneWait runner.now.plan.history batching.old.waiting.items }
-    requires begins { Begins lookahead.old.names (log_names batching.old) }
-    ensures names { result ≡ Ok true → Begins lookahead.new.names (log_names batching.new) }
-    ensures nothing { result ≡ Ok true → batching.new.pending.items ≡ [] }
-    ensures none { result ≡ Ok true → NoneWait runner.now.plan.history batching.new.waiting.items }
-    ensures turn { BatchedTurn runner.now.plan result
-        (standing_at (ahead lines.old) (R.remaining reader.old.inner) reader.old.given (W.contents writer.old.inner) batching.old)
-        (standing_at (ahead lines.new) (R.remaining reader.new.inner) reader.new.given (W.contents writer.new.inner) batching.new) }
-    ensures reads { reader.new.errors ≡ read_errors result reader.old.errors }
-    ensures writes { writer.new.errors ≡ write_errors result writer.old.errors }
-    ensures flushes { writer.new.flushes ≡ writer.old.flushes }
-    ensures alone { IfErr result (λ f. f ≡ TextFault.Spawn → 1 < runner.now.plan.settings.workers) }
-{
-    if !report_line(runner, reader, lines, batching)? {
-        return Ok(false);
-    }
-    let bytes = lines.bytes_ahead();
-    let buffered = Buffered {
-        bytes,
-        given: reader.given,
-    };
-    let taken = deal_at_hand(runner, lookahead, batching, &buffered)?;
-    report_early(runner, batching)?;
-    lines.take_ahead(taken);
-    write_pending(writer, &mut batching.pending)?;
-    Ok(true)
-}
-
-/// Takes lines to the end of the input, as `report_turn`.
-#[tactic(auto, using(crate::proofs::Faults::several_told, crate::proofs::Faults::several_kept))]
-fn report_rest<T: Threads + Wait + Sync, R: Read, W: Write>(
-    runner: &Runner<T>,
-    reader: &mut Counted<R>,
-    writer: &mut Counted<W>,
-    lines: &mut LineReader,
-    lookahead: &mut Lookahead,
-    batching: &mut Batching,
-) -> Result<(), TextFault>
-    requires ready { IsBatchReady runner.now.plan batching.old (length (ahead lines.old)) reader.old.given }
-    requires nothing { batching.old.pending.items ≡ [] }
-    requires none { NoneWait runner.now.plan.history batching.old.waiting.items }
-    requires begins { Begins lookahead.old.names (log_names batching.old) }
-    ensures ends { EndsBatching runner.now.plan result
-        (standing_at (ahead lines.old) (R.remaining reader.old.inner) reader.old.given (W.contents writer.old.inner) batching.old)
-        (R.remaining reader.new.inner) (W.contents writer.new.inner) batching.new }
-    ensures reads { reader.new.errors ≡ read_errors result reader.old.errors }
-    ensures writes { writer.new.errors ≡ write_errors result writer.old.errors }
-    ensures flushes { writer.new.flushes ≡ writer.old.flushes }
-    ensures alone { IfErr result (λ f. f ≡ TextFault.Spawn → 1 < runner.now.plan.settings.workers) }
-{
-    'lines: while report_turn(runner, reader, writer, lines, lookahead, batching)? {}
-    Ok(())
 }
 
 /// A reader of lines, which reads much at once where threads read lines before their turn.
@@ -212,7 +85,9 @@ fn lines_for(alloc: Global, reading: ReadingAhead) -> Result<LineReader, AllocEr
     LineReader::new(alloc)
 }
 
-/// Takes the lines of the input, and runs and reports all of it, the end of the report still pending.
+/// Takes the lines of the input, and runs and reports all of it, the end of the report still pending. In each turn it takes a line, as
+/// `report_line`, and then whole buffered lines, as `deal_at_hand`. Then it reports the lines that wait, unless all is kept, and writes what
+/// is pending.
 #[tactic(auto, using(crate::proofs::Faults::several_told, crate::proofs::Faults::several_kept))]
 fn report_all<T: Threads + Wait + Sync, R: Read, W: Write>(
     runner: &Runner<T>,
@@ -241,7 +116,20 @@ fn report_all<T: Threads + Wait + Sync, R: Read, W: Write>(
     let mut lines = lines_for(runner.alloc, reading)?;
     let seed = batching.engine.log().catalog().seed();
     let mut lookahead = Lookahead::seeded(runner.alloc, reading, seed);
-    report_rest(runner, reader, writer, &mut lines, &mut lookahead, batching)?;
+    'turns: while report_line(runner, reader, &mut lines, batching)? {
+        let bytes = lines.bytes_ahead();
+        let buffered = Buffered {
+            bytes,
+            given: reader.given,
+        };
+        let taken = deal_at_hand(runner, &mut lookahead, batching, &buffered)?;
+        match runner.plan.history {
+            History::Kept => {}
+            History::Dropped => report_batch(runner, batching)?,
+        }
+        lines.take_ahead(taken);
+        write_pending(writer, &mut batching.pending)?;
+    }
     report_batch(runner, batching)?;
     Ok(())
 }
@@ -274,12 +162,10 @@ fn run_batches<T: Threads + Wait + Sync, R: Read, W: Write>(
     ensures all { OnOk result (finished batching.new.engine ≡ length batching.new.engine.log.statements) }
     ensures trimmed { OnOk result (IsTrimmedBy runner.now.plan.history runner.now.plan.settings batching.new.engine) }
     ensures kept { OnOk result (batching.new.engine.dropped ≡ dropped_by runner.now.plan.history batching.new.engine) }
-    ensures done { OnOk result (IfSome (R.remaining reader.old.inner) (λ input. (text : List ℕ)
-        × (IsReport input text × Appends (W.contents writer.old.inner) (W.contents writer.new.inner) text))) }
-    ensures begun { IfSome (R.remaining reader.old.inner) (λ input. (text : List ℕ)
-        × (IsReport input text × AppendsFront (W.contents writer.old.inner) (W.contents writer.new.inner) text)) }
-    ensures begun_read { IfRead (R.remaining reader.old.inner) (R.remaining reader.new.inner) (λ given. (text : List ℕ)
-        × (IsReport given text × AppendsFront (W.contents writer.old.inner) (W.contents writer.new.inner) text)) }
+    ensures done { OnOk result (WritesReport (R.remaining reader.old.inner) (W.contents writer.old.inner) (W.contents writer.new.inner)) }
+    ensures begun { WritesBegunReport (R.remaining reader.old.inner) (W.contents writer.old.inner) (W.contents writer.new.inner) }
+    ensures begun_read { WritesBegunReportOfRead (R.remaining reader.old.inner) (R.remaining reader.new.inner)
+        (W.contents writer.old.inner) (W.contents writer.new.inner) }
     ensures read { result ≡ Err TextFault.Read → reader.old.errors < 2 ^ 64 - 1 → reader.old.errors < reader.new.errors }
     ensures write { result ≡ Err TextFault.Write → writer.old.errors < 2 ^ 64 - 1 → writer.old.errors < writer.new.errors }
     ensures whole { OnOk result ((reader.new.errors ≡ reader.old.errors) × (writer.new.errors ≡ writer.old.errors)) }
@@ -306,9 +192,9 @@ fn engine_fault(fault: TextFault) -> EngineFault
     }
 }
 
-/// Reads a log to its end, runs it in batches, and writes its report: one line for each line. The report of the batches that are done is
-/// written each time that the whole buffered lines are taken, which are those of one read at most; the writer is flushed once, at the end.
-/// It returns the engine with the log, all of it finished.
+/// Reads a log to its end, runs it in batches, and writes its report: one line for each line but the heading of version 2. The report of
+/// the batches that are done is written each time that the whole buffered lines are taken, which are those of one read at most; the writer
+/// is flushed once, at the end. It returns the engine with the log, all of it finished. Maps find their keys under `seed`.
 ///
 /// A batch is the next `batch` accepted statements, or what is left at the end of the input. After each batch the rows before the
 /// last `keep` batches aren't kept: the store's mark is the start of the `keep`-th batch from the last one, or the end if `keep`
@@ -318,22 +204,22 @@ fn engine_fault(fault: TextFault) -> EngineFault
 /// refused, `Spawn` where a worker's thread could not be started, `Read` where the reader failed, `Write` where the writer failed, or took
 /// no byte of a piece that wasn't empty. After a fault a beginning of the report is written: after `NoMemory`, `Spawn` and `Read` the
 /// batches that were finished, after `Write` what the writer took.
+#[tactic(auto, using(crate::proofs::Faults::several_engine))]
 pub fn run_text<T: Threads + Wait + Sync, R: Read, W: Write>(
     rt: &T,
     alloc: Global,
     reader: &mut Counted<R>,
     writer: &mut Counted<W>,
     settings: &Settings,
+    seed: HashSeed,
 ) -> Result<Engine, EngineFault>
     // What was written is the report of what was read.
-    ensures done { OnOk result (IfSome (R.remaining reader.old.inner) (λ input. (text : List ℕ)
-        × (IsReport input text × Appends (W.contents writer.old.inner) (W.contents writer.new.inner) text))) }
+    ensures done { OnOk result (WritesReport (R.remaining reader.old.inner) (W.contents writer.old.inner) (W.contents writer.new.inner)) }
     // After a fault it is a beginning of it.
-    ensures begun { IfSome (R.remaining reader.old.inner) (λ input. (text : List ℕ)
-        × (IsReport input text × AppendsFront (W.contents writer.old.inner) (W.contents writer.new.inner) text)) }
+    ensures begun { WritesBegunReport (R.remaining reader.old.inner) (W.contents writer.old.inner) (W.contents writer.new.inner) }
     // It is also a beginning of the report of what was read by then: it says nothing of what the reader has left.
-    ensures begun_read { IfRead (R.remaining reader.old.inner) (R.remaining reader.new.inner) (λ given. (text : List ℕ)
-        × (IsReport given text × AppendsFront (W.contents writer.old.inner) (W.contents writer.new.inner) text)) }
+    ensures begun_read { WritesBegunReportOfRead (R.remaining reader.old.inner) (R.remaining reader.new.inner)
+        (W.contents writer.old.inner) (W.contents writer.new.inner) }
     // Read and Write come only where the reader or the writer failed.
     ensures read { result ≡ Err EngineFault.Read → reader.old.errors < 2 ^ 64 - 1 → reader.old.errors < reader.new.errors }
     ensures write { result ≡ Err EngineFault.Write → writer.old.errors < 2 ^ 64 - 1 → writer.old.errors < writer.new.errors }
@@ -354,37 +240,6 @@ pub fn run_text<T: Threads + Wait + Sync, R: Read, W: Write>(
     ensures trimmed { IfOk result (λ engine. IsTrimmed settings.now engine) }
     ensures kept { IfOk result (λ engine. engine.dropped ≡ 0) }
 {
-    run_text_seeded(rt, alloc, reader, writer, settings, HashSeed::fixed())
-}
-
-/// The same, by maps that find their keys under this seed.
-#[tactic(auto, using(crate::proofs::Faults::several_engine))]
-pub fn run_text_seeded<T: Threads + Wait + Sync, R: Read, W: Write>(
-    rt: &T,
-    alloc: Global,
-    reader: &mut Counted<R>,
-    writer: &mut Counted<W>,
-    settings: &Settings,
-    seed: HashSeed,
-) -> Result<Engine, EngineFault>
-    ensures done { OnOk result (IfSome (R.remaining reader.old.inner) (λ input. (text : List ℕ)
-        × (IsReport input text × Appends (W.contents writer.old.inner) (W.contents writer.new.inner) text))) }
-    ensures begun { IfSome (R.remaining reader.old.inner) (λ input. (text : List ℕ)
-        × (IsReport input text × AppendsFront (W.contents writer.old.inner) (W.contents writer.new.inner) text)) }
-    ensures begun_read { IfRead (R.remaining reader.old.inner) (R.remaining reader.new.inner) (λ given. (text : List ℕ)
-        × (IsReport given text × AppendsFront (W.contents writer.old.inner) (W.contents writer.new.inner) text)) }
-    ensures read { result ≡ Err EngineFault.Read → reader.old.errors < 2 ^ 64 - 1 → reader.old.errors < reader.new.errors }
-    ensures write { result ≡ Err EngineFault.Write → writer.old.errors < 2 ^ 64 - 1 → writer.old.errors < writer.new.errors }
-    ensures whole { OnOk result ((reader.new.errors ≡ reader.old.errors) × (writer.new.errors ≡ writer.old.errors)) }
-    ensures flushed { OnOk result ((writer.new.flushes ≡ raised writer.old.flushes) × (writer.new.is_flushed ≡ true)) }
-    ensures bad { (result ≡ Err EngineFault.BadSettings) ↔ (are_within_limits settings.now ≡ false) }
-    ensures nothing { result ≡ Err EngineFault.BadSettings → (reader.new ≡ reader.old) × (writer.new ≡ writer.old) }
-    ensures alone { settings.now.workers ≤ 1 → result ≢ Err EngineFault.Spawn }
-    ensures log { IfOk result (λ engine. IsLogOfText (R.remaining reader.old.inner) engine.log) }
-    ensures all { IfOk result (λ engine. finished engine ≡ length engine.log.statements) }
-    ensures trimmed { IfOk result (λ engine. IsTrimmed settings.now engine) }
-    ensures kept { IfOk result (λ engine. engine.dropped ≡ 0) }
-{
     if !are_within_limits(settings) {
         return Err(EngineFault::BadSettings);
     }
@@ -398,27 +253,27 @@ pub fn run_text_seeded<T: Threads + Wait + Sync, R: Read, W: Write>(
 
 /// Reads a log to its end, runs it in batches, and writes its report, as `run_text`, but keeps nothing that is finished: with each
 /// batch its statements and outcomes are dropped once they are reported. So what it keeps beside rows, names and the records of
-/// grants doesn't grow with the accepted lines.
+/// grants doesn't grow with the accepted lines. Maps find their keys under `seed`.
 ///
 /// A batch ends also where no whole line is available, so that the reader is asked only when all lines before are reported: a line that
 /// comes alone is answered at once. It has at most the whole lines of one read of `BUFFER_BYTES` then, and the one that was begun before.
 /// After each batch the store's mark is `batch * (keep - 1)` places before the start of the batch, or its end if `keep` is 0.
+#[tactic(auto, using(crate::proofs::Faults::several_engine))]
 pub fn report_text<T: Threads + Wait + Sync, R: Read, W: Write>(
     rt: &T,
     alloc: Global,
     reader: &mut Counted<R>,
     writer: &mut Counted<W>,
     settings: &Settings,
+    seed: HashSeed,
 ) -> Result<(), EngineFault>
     // What was written is the report of what was read.
-    ensures done { OnOk result (IfSome (R.remaining reader.old.inner) (λ input. (text : List ℕ)
-        × (IsReport input text × Appends (W.contents writer.old.inner) (W.contents writer.new.inner) text))) }
+    ensures done { OnOk result (WritesReport (R.remaining reader.old.inner) (W.contents writer.old.inner) (W.contents writer.new.inner)) }
     // After a fault it is a beginning of it.
-    ensures begun { IfSome (R.remaining reader.old.inner) (λ input. (text : List ℕ)
-        × (IsReport input text × AppendsFront (W.contents writer.old.inner) (W.contents writer.new.inner) text)) }
+    ensures begun { WritesBegunReport (R.remaining reader.old.inner) (W.contents writer.old.inner) (W.contents writer.new.inner) }
     // It is also a beginning of the report of what was read by then: it says nothing of what the reader has left.
-    ensures begun_read { IfRead (R.remaining reader.old.inner) (R.remaining reader.new.inner) (λ given. (text : List ℕ)
-        × (IsReport given text × AppendsFront (W.contents writer.old.inner) (W.contents writer.new.inner) text)) }
+    ensures begun_read { WritesBegunReportOfRead (R.remaining reader.old.inner) (R.remaining reader.new.inner)
+        (W.contents writer.old.inner) (W.contents writer.new.inner) }
     // Read and Write come only where the reader or the writer failed.
     ensures read { result ≡ Err EngineFault.Read → reader.old.errors < 2 ^ 64 - 1 → reader.old.errors < reader.new.errors }
     ensures write { result ≡ Err EngineFault.Write → writer.old.errors < 2 ^ 64 - 1 → writer.old.errors < writer.new.errors }
@@ -433,33 +288,6 @@ pub fn report_text<T: Threads + Wait + Sync, R: Read, W: Write>(
     // One worker starts no thread.
     ensures alone { settings.now.workers ≤ 1 → result ≢ Err EngineFault.Spawn }
 {
-    report_text_seeded(rt, alloc, reader, writer, settings, HashSeed::fixed())
-}
-
-/// The same, by maps that find their keys under this seed.
-#[tactic(auto, using(crate::proofs::Faults::several_engine))]
-pub fn report_text_seeded<T: Threads + Wait + Sync, R: Read, W: Write>(
-    rt: &T,
-    alloc: Global,
-    reader: &mut Counted<R>,
-    writer: &mut Counted<W>,
-    settings: &Settings,
-    seed: HashSeed,
-) -> Result<(), EngineFault>
-    ensures done { OnOk result (IfSome (R.remaining reader.old.inner) (λ input. (text : List ℕ)
-        × (IsReport input text × Appends (W.contents writer.old.inner) (W.contents writer.new.inner) text))) }
-    ensures begun { IfSome (R.remaining reader.old.inner) (λ input. (text : List ℕ)
-        × (IsReport input text × AppendsFront (W.contents writer.old.inner) (W.contents writer.new.inner) text)) }
-    ensures begun_read { IfRead (R.remaining reader.old.inner) (R.remaining reader.new.inner) (λ given. (text : List ℕ)
-        × (IsReport given text × AppendsFront (W.contents writer.old.inner) (W.contents writer.new.inner) text)) }
-    ensures read { result ≡ Err EngineFault.Read → reader.old.errors < 2 ^ 64 - 1 → reader.old.errors < reader.new.errors }
-    ensures write { result ≡ Err EngineFault.Write → writer.old.errors < 2 ^ 64 - 1 → writer.old.errors < writer.new.errors }
-    ensures whole { OnOk result ((reader.new.errors ≡ reader.old.errors) × (writer.new.errors ≡ writer.old.errors)) }
-    ensures flushed { OnOk result ((writer.new.flushes ≡ raised writer.old.flushes) × (writer.new.is_flushed ≡ true)) }
-    ensures bad { (result ≡ Err EngineFault.BadSettings) ↔ (are_within_limits settings.now ≡ false) }
-    ensures nothing { result ≡ Err EngineFault.BadSettings → (reader.new ≡ reader.old) × (writer.new ≡ writer.old) }
-    ensures alone { settings.now.workers ≤ 1 → result ≢ Err EngineFault.Spawn }
-{
     if !are_within_limits(settings) {
         return Err(EngineFault::BadSettings);
     }
@@ -471,8 +299,9 @@ pub fn report_text_seeded<T: Threads + Wait + Sync, R: Read, W: Write>(
     }
 }
 
-/// Reads a log to its end, runs it in order on this thread, and writes its report: one line for each line. Nothing that is finished is
-/// kept. Meanwhile as many further threads as `reading` says read lines before their turn.
+/// Reads a log to its end, runs it in order on this thread, and writes its report: one line for each line but the heading of version 2.
+/// Nothing that is finished is kept. Meanwhile as many further threads as `reading` says read lines before their turn. Maps find their keys
+/// under `seed`.
 ///
 /// Where no whole line is available, what waits of the report is written before more is read: a line that comes alone is answered at once.
 /// While whole lines are buffered the report is gathered.
@@ -487,16 +316,15 @@ pub fn report_in_order<T: Threads + Wait + Sync, R: Read, W: Write>(
     reader: &mut Counted<R>,
     writer: &mut Counted<W>,
     reading: ReadingAhead,
+    seed: HashSeed,
 ) -> Result<(), TextFault>
     // What was written is the report of what was read.
-    ensures done { OnOk result (IfSome (R.remaining reader.old.inner) (λ input. (text : List ℕ)
-        × (IsReport input text × Appends (W.contents writer.old.inner) (W.contents writer.new.inner) text))) }
+    ensures done { OnOk result (WritesReport (R.remaining reader.old.inner) (W.contents writer.old.inner) (W.contents writer.new.inner)) }
     // After a fault it is a beginning of it.
-    ensures begun { IfSome (R.remaining reader.old.inner) (λ input. (text : List ℕ)
-        × (IsReport input text × AppendsFront (W.contents writer.old.inner) (W.contents writer.new.inner) text)) }
+    ensures begun { WritesBegunReport (R.remaining reader.old.inner) (W.contents writer.old.inner) (W.contents writer.new.inner) }
     // It is also a beginning of the report of what was read by then: it says nothing of what the reader has left.
-    ensures begun_read { IfRead (R.remaining reader.old.inner) (R.remaining reader.new.inner) (λ given. (text : List ℕ)
-        × (IsReport given text × AppendsFront (W.contents writer.old.inner) (W.contents writer.new.inner) text)) }
+    ensures begun_read { WritesBegunReportOfRead (R.remaining reader.old.inner) (R.remaining reader.new.inner)
+        (W.contents writer.old.inner) (W.contents writer.new.inner) }
     // Read and Write come only where the reader or the writer failed.
     ensures read { result ≡ Err TextFault.Read → reader.old.errors < 2 ^ 64 - 1 → reader.old.errors < reader.new.errors }
     ensures write { result ≡ Err TextFault.Write → writer.old.errors < 2 ^ 64 - 1 → writer.old.errors < writer.new.errors }
@@ -505,30 +333,6 @@ pub fn report_in_order<T: Threads + Wait + Sync, R: Read, W: Write>(
     // Ok says that the writer was flushed once, and not written to since.
     ensures flushed { OnOk result ((writer.new.flushes ≡ raised writer.old.flushes) × (writer.new.is_flushed ≡ true)) }
     // A thread that reads ahead and can't be started ends no run.
-    ensures alone { result ≢ Err TextFault.Spawn }
-{
-    report_in_order_seeded(rt, alloc, reader, writer, reading, HashSeed::fixed())
-}
-
-/// The same, by maps that find their keys under this seed.
-pub fn report_in_order_seeded<T: Threads + Wait + Sync, R: Read, W: Write>(
-    rt: &T,
-    alloc: Global,
-    reader: &mut Counted<R>,
-    writer: &mut Counted<W>,
-    reading: ReadingAhead,
-    seed: HashSeed,
-) -> Result<(), TextFault>
-    ensures done { OnOk result (IfSome (R.remaining reader.old.inner) (λ input. (text : List ℕ)
-        × (IsReport input text × Appends (W.contents writer.old.inner) (W.contents writer.new.inner) text))) }
-    ensures begun { IfSome (R.remaining reader.old.inner) (λ input. (text : List ℕ)
-        × (IsReport input text × AppendsFront (W.contents writer.old.inner) (W.contents writer.new.inner) text)) }
-    ensures begun_read { IfRead (R.remaining reader.old.inner) (R.remaining reader.new.inner) (λ given. (text : List ℕ)
-        × (IsReport given text × AppendsFront (W.contents writer.old.inner) (W.contents writer.new.inner) text)) }
-    ensures read { result ≡ Err TextFault.Read → reader.old.errors < 2 ^ 64 - 1 → reader.old.errors < reader.new.errors }
-    ensures write { result ≡ Err TextFault.Write → writer.old.errors < 2 ^ 64 - 1 → writer.old.errors < writer.new.errors }
-    ensures whole { OnOk result ((reader.new.errors ≡ reader.old.errors) × (writer.new.errors ≡ writer.old.errors)) }
-    ensures flushed { OnOk result ((writer.new.flushes ≡ raised writer.old.flushes) × (writer.new.is_flushed ≡ true)) }
     ensures alone { result ≢ Err TextFault.Spawn }
 {
     let mut batching = Batching::seeded(alloc, seed);

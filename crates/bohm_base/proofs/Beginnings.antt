@@ -6,11 +6,11 @@ use Rattle.std.proofs.lemmas.List.{append-nil, take-append-drop}
 use Rattle.line_io.specs.Known.{AppendsFront, HasBegun, MovesOut}
 use Rattle.line_io.proofs.Written.{appends_none, appends_then, appends_kept, appends_front, moved_none}
 use Rattle.sequencer.specs.Log.{Accepted}
-use Rattle.report.specs.Report.{IsReport}
 use Rattle.report.proofs.Readings.{IsTotal, some_report}
 use Rattle.bohm_base.specs.declared.collecting.LineOutcome.{LineOutcome}
 use Rattle.bohm_base.specs.declared.fault.EngineFault.{EngineFault}
 use Rattle.bohm_base.specs.Collecting.{Collects, line_outcome_text, log_text, places_of, report_text}
+use Rattle.bohm_base.specs.Pending.{WritesBegunReport, WritesReport}
 use Rattle.bohm_base.proofs.Logs.{report_is}
 
 -- the line of an index of the log's lines is pending too
@@ -74,7 +74,7 @@ front_written o n m whole pending begun front =
     appends_front o m moved.0 left whole moved.1 moved.2
 
 -- before the log is read and run, nothing is written
-pub nothing_written : IsTotal → (i o : Option (List ℕ)) → IfSome i (λ input. (text : List ℕ) × (IsReport input text × AppendsFront o o text))
+pub nothing_written : IsTotal → (i o : Option (List ℕ)) → WritesBegunReport i o o
 nothing_written total None o = tt
 nothing_written total (Some input) o = let report = some_report total input in (report.0, (report.1, (0, appends_none o report.0)))
 
@@ -85,14 +85,14 @@ whole_written o n m k whole pending moves appends keeps =
 
 -- a beginning of the log's text is a beginning of the report
 pub some_written : (i o m : Option (List ℕ)) (log : Accepted) (lines : List LineOutcome) → IfSome i (λ input. Collects input log lines)
-    → AppendsFront o m (log_text log lines) → IfSome i (λ input. (text : List ℕ) × (IsReport input text × AppendsFront o m text))
+    → AppendsFront o m (log_text log lines) → WritesBegunReport i o m
 some_written None o m log lines collects front = tt
 some_written (Some input) o m log lines collects front = (log_text log lines, (report_is input log lines collects, front))
 
 -- the log's text is the report, if that was answered
 pub all_written : {A : Type 0} (i o m : Option (List ℕ)) (log : Accepted) (lines : List LineOutcome) (result : Result A EngineFault)
     → IfSome i (λ input. Collects input log lines) → OnOk result (Appends o m (log_text log lines))
-    → OnOk result (IfSome i (λ input. (text : List ℕ) × (IsReport input text × Appends o m text)))
+    → OnOk result (WritesReport i o m)
 all_written i o m log lines (Err fault) collects whole = tt
 all_written None o m log lines (Ok done) collects whole = tt
 all_written (Some input) o m log lines (Ok done) collects whole = (log_text log lines, (report_is input log lines collects, whole))

@@ -1,12 +1,11 @@
 -- What was written of a report, and what is pending of it.
 use Rattle.std.proofs.Common.{◌≡◌, ℕ, List, [], ◌++◌, take, drop, Option, Some, None, refl, ap, sym, ◌∙◌, subst, append_assoc}
-use Rattle.std.specs.Prelude.{Result, Ok, Err, IfSome, OnOk}
+use Rattle.std.specs.Prelude.{Result, Ok, Err, OnOk}
 use Rattle.std.specs.Io.KnownBytes.{Appends, Keeps}
 use Rattle.std.proofs.lemmas.List.{append-nil, take-append-drop}
 use Rattle.line_io.specs.Known.{AppendsFront, HasBegun}
 use Rattle.line_io.proofs.Written.{appends_then, appends_kept, appends_front, front_kept}
-use Rattle.report.specs.Report.{IsReport}
-use Rattle.bohm_base.specs.Pending.{HasBegunReport, HasReport}
+use Rattle.bohm_base.specs.Pending.{HasBegunReport, HasReport, WritesBegunReport, WritesReport}
 use Rattle.bohm_base.proofs.Beginnings.{begun_then}
 use Rattle.report.proofs.Readings.{IsTotal, some_report}
 
@@ -24,7 +23,7 @@ report_begun (Some xs) o n m pending less b a = (b.0, (b.1.0, begun_then o n m b
 -- what was pending at the end is written, or a front of it
 pub front_written : (i o n m : Option (List ℕ)) (pending : List ℕ)
     → HasBegunReport i o n pending → AppendsFront n m pending
-    → IfSome i (λ input. (text : List ℕ) × (IsReport input text × AppendsFront o m text))
+    → WritesBegunReport i o m
 front_written None o n m pending b a = tt
 front_written (Some xs) o n m pending b a =
     let text : List ℕ = b.0 in
@@ -44,7 +43,7 @@ front_written (Some xs) o n m pending b a =
 
 pub all_written : (i o n m k : Option (List ℕ)) (pending : List ℕ)
     → HasReport i o n pending → Appends n m pending → Keeps m k
-    → IfSome i (λ input. (text : List ℕ) × (IsReport input text × Appends o k text))
+    → WritesReport i o k
 all_written None o n m k pending b a e = tt
 all_written (Some xs) o n m k pending b a e =
     let front : List ℕ = b.1.1.0 in
@@ -60,7 +59,7 @@ begun_start total (Some xs) o pending p =
 
 pub front_kept_written : (i o n m k : Option (List ℕ)) (pending : List ℕ)
     → HasBegunReport i o n pending → AppendsFront n m pending → Keeps m k
-    → IfSome i (λ input. (text : List ℕ) × (IsReport input text × AppendsFront o k text))
+    → WritesBegunReport i o k
 front_kept_written i o n m k pending b a e = front_written i o n k pending b (front_kept n m k pending a e)
 
 -- what holds where the answer is Ok

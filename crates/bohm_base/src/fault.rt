@@ -22,27 +22,18 @@ pub enum EngineFault {
     Spawn = 5,
 }
 
-impl EngineFault {
-    /// What it says to a reader.
-    fn text(self) -> &'static str
-        ensures { result.now ≡ run_fault_text self }
-    {
-        match self {
-            EngineFault::NoMemory => "out of memory",
-            EngineFault::Read => "cannot read",
-            EngineFault::Write => "cannot write",
-            EngineFault::Spawn => "cannot start a worker",
-        }
-    }
-}
-
 impl fmt::Display for EngineFault {
     ghost use Rattle.std.specs.Prelude.{Some};
 
     ghost output = { λ fault. Some (run_fault_text fault) };
 
     fn fmt<W: fmt::Write>(&self, f: &mut fmt::Formatter<W>) -> fmt::Result {
-        f.write_str(self.text())
+        f.write_str(match self {
+            EngineFault::NoMemory => "out of memory",
+            EngineFault::Read => "cannot read",
+            EngineFault::Write => "cannot write",
+            EngineFault::Spawn => "cannot start a worker",
+        })
     }
 }
 

@@ -17,4 +17,4 @@ mod serial_run;
 pub use collecting::{LineOutcome, faulty_line, refused_line};
 pub use command_line::{ArgumentFault, argument_fault, arguments};
 pub use fault::EngineFault;
-pub use serial_run::{serial_text, serial_text_seeded};
+pub use serial_run::serial_text;

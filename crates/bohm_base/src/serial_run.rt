@@ -1,18 +1,18 @@
 //! The serial path: the whole log is read, then run place by place, and then reported line by line.
 
-ghost use Rattle.std.specs.Prelude.{◌≡◌, ◌≢◌, ◌<◌, ◌-◌, ◌^◌, ℕ, [], List, IfErr, IfSome, OnOk, Err, slice_get, true};
+ghost use Rattle.std.specs.Prelude.{◌≡◌, ◌≢◌, ◌<◌, ◌-◌, ◌^◌, ℕ, [], IfErr, OnOk, Err, slice_get, true};
 ghost use Rattle.std.specs.Io.KnownBytes.{Appends};
 ghost use Rattle.line_io.specs.Known.{AppendsFront, HasBegun, MovesOut, raised};
 ghost use Rattle.model_base.specs.Outcomes.{outcome};
-ghost use Rattle.report.specs.Report.{IsReport};
 ghost use Rattle.bohm_base.specs.Collecting.{log_text};
 ghost use Rattle.bohm_base.specs.Faults.{write_errors};
+ghost use Rattle.bohm_base.specs.Pending.{WritesBegunReport, WritesReport};
 
 use crate::collecting::{Collected, collect_lines};
 use crate::fault::EngineFault;
 use crate::report_cursor::ReportCursor;
 use line_io::{Counted, PENDING_BYTES, flush, write_out};
-use model::serial_seeded;
+use model::serial;
 use model_base::{HashSeed, Outcome};
 use std::alloc::Global;
 use std::io::{Read, Write};
@@ -53,37 +53,8 @@ fn report_lines<W: Write>(
     Ok(())
 }
 
-/// Writes the whole report of a log by the outcomes of its places. Nothing is pending before. After a fault a beginning of
-/// the report is written.
-fn write_report<W: Write>(
-    alloc: Global,
-    writer: &mut Counted<W>,
-    collected: &Collected,
-    outcomes: &[Outcome],
-    pending: &mut Vec<u8>,
-) -> Result<(), EngineFault>
-    requires outcomes { (place : ℕ) → slice_get outcomes.now place ≡ outcome collected.now.log.statements place }
-    requires empty { pending.old.items ≡ [] }
-    ensures done { OnOk result (Appends (W.contents writer.old.inner) (W.contents writer.new.inner)
-        (log_text collected.now.log collected.now.lines.items)) }
-    ensures begun { AppendsFront (W.contents writer.old.inner) (W.contents writer.new.inner)
-        (log_text collected.now.log collected.now.lines.items) }
-    ensures err { IfErr result (λ f. f ≢ EngineFault.Read) }
-    ensures alone { IfErr result (λ f. f ≢ EngineFault.Spawn) }
-    ensures write { result ≡ Err EngineFault.Write → writer.old.errors < 2 ^ 64 - 1 → writer.old.errors < writer.new.errors }
-    ensures whole { OnOk result (writer.new.errors ≡ writer.old.errors) }
-    ensures flushed { OnOk result ((writer.new.flushes ≡ raised writer.old.flushes) × (writer.new.is_flushed ≡ true)) }
-{
-    let ended = report_lines(alloc, writer, collected, outcomes, pending);
-    let written = write_out(writer, pending.as_slice());
-    ended?;
-    written?;
-    flush(writer)?;
-    Ok(())
-}
-
-/// Runs a log that was read, by `model::serial`, and writes its report, as `write_report`. Where the run finds no memory
-/// nothing is written.
+/// Runs a log that was read, by `model::serial`, and writes its report. Nothing is pending before. Where the run finds no memory nothing
+/// is written, after another fault a beginning of the report.
 fn run_log<W: Write>(
     alloc: Global,
     writer: &mut Counted<W>,
@@ -102,27 +73,32 @@ fn run_log<W: Write>(
     ensures flushed { OnOk result ((writer.new.flushes ≡ raised writer.old.flushes) × (writer.new.is_flushed ≡ true)) }
 {
     let seed = collected.log.catalog().seed();
-    let outcomes = serial_seeded(alloc, collected.log.statements(), seed)?;
-    write_report(alloc, writer, collected, &outcomes, pending)
+    let outcomes = serial(alloc, collected.log.statements(), seed)?;
+    let ended = report_lines(alloc, writer, collected, &outcomes, pending);
+    let written = write_out(writer, pending.as_slice());
+    ended?;
+    written?;
+    flush(writer)?;
+    Ok(())
 }
 
-/// Reads a log to its end, runs it by `model::serial`, and writes its report: one line for each line but the heading of version 2.
+/// Reads a log to its end, runs it by `model::serial`, and writes its report: one line for each line but the heading of version 2. Maps
+/// find their keys under `seed`.
 ///
 /// The log's statements, their outcomes and the rows are kept in memory, and two bytes or so for each line. `NoMemory` comes where a growth
 /// was refused, `Read` where the reader failed, `Write` where the writer failed, or took no byte of a piece that wasn't empty. After a
-/// fault a beginning of the report is written: nothing of it where the log was not read to its end or not run, which is so after each
+/// fault a beginning of the report is written: nothing of it where the log was not read to its end or not run, as after each
 /// `Read`; the lines that were written where one found no memory; and after `Write` what the writer took.
 pub fn serial_text<R: Read, W: Write>(
     alloc: Global,
     reader: &mut Counted<R>,
     writer: &mut Counted<W>,
+    seed: HashSeed,
 ) -> Result<(), EngineFault>
     // What was written is the report of what was read.
-    ensures done { OnOk result (IfSome (R.remaining reader.old.inner) (λ input. (text : List ℕ)
-        × (IsReport input text × Appends (W.contents writer.old.inner) (W.contents writer.new.inner) text))) }
+    ensures done { OnOk result (WritesReport (R.remaining reader.old.inner) (W.contents writer.old.inner) (W.contents writer.new.inner)) }
     // After a fault it is a beginning of it.
-    ensures begun { IfSome (R.remaining reader.old.inner) (λ input. (text : List ℕ)
-        × (IsReport input text × AppendsFront (W.contents writer.old.inner) (W.contents writer.new.inner) text)) }
+    ensures begun { WritesBegunReport (R.remaining reader.old.inner) (W.contents writer.old.inner) (W.contents writer.new.inner) }
     // Read and Write come only where the reader or the writer failed.
     ensures read { result ≡ Err EngineFault.Read → reader.old.errors < 2 ^ 64 - 1 → reader.old.errors < reader.new.errors }
     ensures write { result ≡ Err EngineFault.Write → writer.old.errors < 2 ^ 64 - 1 → writer.old.errors < writer.new.errors }
@@ -131,26 +107,6 @@ pub fn serial_text<R: Read, W: Write>(
     // Ok says that the writer was flushed once, and not written to since.
     ensures flushed { OnOk result ((writer.new.flushes ≡ raised writer.old.flushes) × (writer.new.is_flushed ≡ true)) }
     // No thread is started.
-    ensures alone { IfErr result (λ f. f ≢ EngineFault.Spawn) }
-{
-    serial_text_seeded(alloc, reader, writer, HashSeed::fixed())
-}
-
-/// The same, by maps that find their keys under this seed.
-pub fn serial_text_seeded<R: Read, W: Write>(
-    alloc: Global,
-    reader: &mut Counted<R>,
-    writer: &mut Counted<W>,
-    seed: HashSeed,
-) -> Result<(), EngineFault>
-    ensures done { OnOk result (IfSome (R.remaining reader.old.inner) (λ input. (text : List ℕ)
-        × (IsReport input text × Appends (W.contents writer.old.inner) (W.contents writer.new.inner) text))) }
-    ensures begun { IfSome (R.remaining reader.old.inner) (λ input. (text : List ℕ)
-        × (IsReport input text × AppendsFront (W.contents writer.old.inner) (W.contents writer.new.inner) text)) }
-    ensures read { result ≡ Err EngineFault.Read → reader.old.errors < 2 ^ 64 - 1 → reader.old.errors < reader.new.errors }
-    ensures write { result ≡ Err EngineFault.Write → writer.old.errors < 2 ^ 64 - 1 → writer.old.errors < writer.new.errors }
-    ensures whole { OnOk result ((reader.new.errors ≡ reader.old.errors) × (writer.new.errors ≡ writer.old.errors)) }
-    ensures flushed { OnOk result ((writer.new.flushes ≡ raised writer.old.flushes) × (writer.new.is_flushed ≡ true)) }
     ensures alone { IfErr result (λ f. f ≢ EngineFault.Spawn) }
 {
     let mut pending = Vec::with_capacity(alloc, PENDING_BYTES)?;

@@ -13,9 +13,9 @@ pub fn each_text_has_one_report()
     ensures one { (input : List ℕ) (text other : List ℕ) → IsReport input text → IsReport input other → text ≡ other }
 {}
 
-/// A report says exactly who was denied, and why. It is one line for each line of its text but the heading of version 2. The line of a RUN or
-/// a deed that the log took says `denied` exactly if its user lacks one of its needs by the deeds before its place; then it names the first
-/// such need, and its cause: the place of the revocation that took it away last, or `never`.
+/// A report says exactly who was denied, and why. It is one line for each line of its text but the heading of version 2. The line of a
+/// RUN or a deed that the log took says `denied` exactly if its user lacks one of its needs by the deeds before its place; then it names
+/// the first such need, and its cause: the place of the revocation that took it away last, or `never`.
 pub fn reports_tell_who_was_denied()
     ensures lines { (input text : List ℕ) → IsReport input text → (readings : List ParsedLine)
         × AreParsedLines (lines_of input) readings × (text ≡ flat_map (λ line. line) (report_lines readings)) }

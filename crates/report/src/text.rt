@@ -161,8 +161,8 @@ fn put_spelled(
     Ok(())
 }
 
-/// Appends each record after a space, in version 2 with its kind and its grantee. In version 1 no grantees are wanted. After an error some of
-/// the records may be to the text.
+/// Appends each record after a space, in version 2 with its kind and its grantee. In version 1 no grantees are wanted. After an error
+/// some of the records may be appended.
 pub fn put_records(
     text: &mut Vec<u8>,
     catalog: &Catalog,
@@ -236,7 +236,7 @@ fn put_done(
     put_deed(text, catalog, deed, grantees)
 }
 
-/// Appends a need: its kind and table, and whether it is with the option. After an error a part of it may be to the text.
+/// Appends a need: its kind and table, and whether it is with the option. After an error a part of it may be appended.
 pub fn put_need(text: &mut Vec<u8>, tables: &NameTable, need: &Need) -> Result<(), AllocError>
     requires { need.now.table < length tables.now }
     ensures { OnOk result (text.new.items ≡ text.old.items ++ need_text tables.now need.now) }
@@ -250,7 +250,7 @@ pub fn put_need(text: &mut Vec<u8>, tables: &NameTable, need: &Need) -> Result<(
     Ok(())
 }
 
-/// Appends why a need isn't held. After an error a part of it may be to the text.
+/// Appends why a need isn't held. After an error a part of it may be appended.
 pub fn put_cause(text: &mut Vec<u8>, cause: Cause) -> Result<(), AllocError>
     ensures { OnOk result (text.new.items ≡ text.old.items ++ cause_text cause) }
 {

@@ -1,9 +1,18 @@
+use Rattle.std.proofs.Common.{◌≡◌, ℕ, length, ap, ◌∙◌, arith}
+use Rattle.engine.specs.Engine.{Run, finished}
+use Rattle.sequencer.specs.Log.{Accepted}
+use Rattle.batched_text.specs.Settings.{mark_behind}
+use Rattle.batched_text.specs.declared.settings.Settings.{Settings}
 use Rattle.batched_text.proofs.Cutting.{waits_for}
-use Rattle.batched_text.proofs.Histories.{keeps_all}
 use Rattle.batched_text.proofs.batching.report_batch.Goals as goal
 
-pub run_waiting-requires-clause-mark : goal.run_waiting-requires-clause-mark
-run_waiting-requires-clause-mark g c κs within = waits_for c.args.runner.now.plan c.args.batching.now c.requires.filling
-
-pub forget_finished-requires : goal.forget_finished-requires
-forget_finished-requires g c = keeps_all c.args.runner.now.plan.history c.args.batching.now.engine c.run_waiting.new.engine c.in_ok-run_waiting.ensures.dropped c.requires.filling.kept
+pub trim_to-requires-clause-order : goal.trim_to-requires-clause-order
+trim_to-requires-clause-order g c =
+    let old : Run = c.args.batching.now.engine in
+    let settings : Settings = c.args.runner.now.plan.settings in
+    let start : c.finished-place.result ≡ finished old = omega (arith, c.finished-place.ensures.count) in
+    let end : c.len-end.result ≡ length old.log.statements =
+    omega (arith, c.len-end.ensures.count, ap (λ (log : Accepted). length log.statements) c.log.ensures.value) in
+    let same : mark_behind settings c.finished-place.result c.len-end.result ≡ mark_behind settings (finished old) (length old.log.statements) =
+    ap (λ (n : ℕ). mark_behind settings n c.len-end.result) start ∙ ap (mark_behind settings (finished old)) end in
+    omega (arith, c.in-Ok.ensures.mark, waits_for c.args.runner.now.plan c.args.batching.now c.requires.filling, c.mark_behind.ensures, same)

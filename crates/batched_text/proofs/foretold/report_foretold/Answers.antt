@@ -2,9 +2,12 @@ use Rattle.std.proofs.Common.{◌<◌, rules, subst, sym, ◌∙◌, ap}
 use Rattle.std.specs.Prelude.{Ok}
 use Rattle.std.specs.Slice.Iter.{chunks_mut_rest}
 use Rattle.engine.specs.Engine.{Run}
+use Rattle.batched_text.specs.Batching.{ReportsFirst}
 use Rattle.batched_text.specs.Foretold.{Runs, WereReadAhead, log_names}
+use Rattle.batched_text.proofs.Cutting.{reports_early, reports_none}
 use Rattle.batched_text.proofs.ForetoldLines.{were_front, were_others}
 use Rattle.batched_text.proofs.RunLines.{runs_early, runs_early_told, runs_none, runs_then}
+use Rattle.batched_text.proofs.foretold.report_foretold.Goals.{in-Kept, in-Dropped+in_ok-report_batch-in-Dropped}
 use Rattle.batched_text.proofs.foretold.report_foretold.Goals as goal
 
 pub groups-init : goal.groups-init
@@ -21,27 +24,33 @@ report_each-requires-clause-ahead g c κs within =
     were_front (log_names c.groups.batching) c.args.buffered.now.bytes.now (chunks_mut_rest c.groups.group-iterator) c.in-Some.group.now (chunks_mut_rest c.next.new.self)
     c.in-Some.ensures.steps.1.0 c.groups.invariant.ahead
 
-pub returns-in_err-report_early : goal.returns-in_err-report_early
-returns-in_err-report_early g c =
-    runs_then c.args.runner.now.plan c.args.buffered.now c.args.from c.groups.at c.args.batching.now c.groups.batching c.report_early.new.batching
-    c.from_residual-in_err-report_early.result c.groups.invariant.runs
-    (runs_early_told c.args.runner.now.plan c.args.buffered.now c.groups.at c.in_ok-at.at c.groups.batching c.report_each.new.batching c.report_early.new.batching
-    c.in_err-report_early.field-0.0 c.from_residual-in_err-report_early.result c.in_ok-at.ensures c.in_err-report_early.ensures.err
-    c.in_err-report_early.ensures.stops c.from_residual-in_err-report_early.ensures.1)
+pub returns-in_err-report_batch-in-Dropped : goal.returns-in_err-report_batch-in-Dropped
+returns-in_err-report_batch-in-Dropped g c =
+    runs_then c.args.runner.now.plan c.args.buffered.now c.args.from c.groups.at c.args.batching.now c.groups.batching c.report_batch.new.batching
+    c.from_residual-in_err-report_batch-in-Dropped.result c.groups.invariant.runs
+    (runs_early_told c.args.runner.now.plan c.args.buffered.now c.groups.at c.in_ok-at.at c.groups.batching c.report_each.new.batching c.report_batch.new.batching
+    c.in_err-report_batch-in-Dropped.field-0.0 c.from_residual-in_err-report_batch-in-Dropped.result c.in_ok-at.ensures c.in_err-report_batch-in-Dropped.ensures.err
+    c.in_err-report_batch-in-Dropped.ensures.stops c.from_residual-in_err-report_batch-in-Dropped.ensures.1)
 
 pub groups-preserved : goal.groups-preserved
 groups-preserved g c =
-    let put = c.in_ok-report_early.ensures in
-    let early = runs_early c.args.runner.now.plan c.args.buffered.now c.groups.at c.in_ok-at.at c.groups.batching c.report_each.new.batching c.report_early.new.batching
-    c.in_ok-at.ensures put.log put.number put.reports put.room in
+    let put : ReportsFirst c.args.runner.now.plan c.report_each.new.batching c.match-runner.batching =
+    elim c.match-runner.branch [
+      | in-Kept w ↦ subst (ReportsFirst c.args.runner.now.plan c.report_each.new.batching) (sym w.batching-is) (reports_none c.args.runner.now.plan c.report_each.new.batching c.in_ok-at.ensures.ready.ready.room)
+      | in-Dropped+in_ok-report_batch-in-Dropped w ↦ subst (ReportsFirst c.args.runner.now.plan c.report_each.new.batching) (sym w.batching-is)
+          (reports_early c.args.runner.now.plan c.report_each.new.batching w.report_batch.new.batching c.in_ok-at.ensures.ready.ready.room.filling w.in-Dropped.is
+          w.in_ok-report_batch-in-Dropped.ensures.reports)
+    ] in
+    let early = runs_early c.args.runner.now.plan c.args.buffered.now c.groups.at c.in_ok-at.at c.groups.batching c.report_each.new.batching c.match-runner.batching
+    c.in_ok-at.ensures put in
     let second = subst (λ (run : Run). Runs c.args.runner.now.plan c.args.buffered.now c.groups.at c.groups.batching
-    (record c.report_early.new.batching { engine = run }) (Ok c.in_ok-at.at)) (sym c.give_back.ensures) early in
+    (record c.match-runner.batching { engine = run }) (Ok c.in_ok-at.at)) (sym c.give_back.ensures) early in
     record {
       can_next = subst (λ n. 0 < n) (sym c.in-Some.ensures.steps.0) c.groups.invariant.can_next;
       is_finite = tt;
       runs = runs_then c.args.runner.now.plan c.args.buffered.now c.args.from c.groups.at c.args.batching.now c.groups.batching
-          (record c.report_early.new.batching { engine = c.give_back.new.engine }) (Ok c.in_ok-at.at) c.groups.invariant.runs second;
-      ahead = were_others (log_names c.groups.batching) (log_names (record c.report_early.new.batching { engine = c.give_back.new.engine })) c.args.buffered.now.bytes.now
+          (record c.match-runner.batching { engine = c.give_back.new.engine }) (Ok c.in_ok-at.at) c.groups.invariant.runs second;
+      ahead = were_others (log_names c.groups.batching) (log_names (record c.match-runner.batching { engine = c.give_back.new.engine })) c.args.buffered.now.bytes.now
           (chunks_mut_rest c.groups.group-iterator) c.in-Some.group.now (chunks_mut_rest c.next.new.self)
           c.in-Some.ensures.steps.1.0 c.groups.invariant.ahead second.begins second.version;
     }

@@ -37,9 +37,9 @@ returns-in_err-report_full g c =
 pub returns : goal.returns
 returns g c =
     let taken = rw c.in-Some.is at c.in_ok-count.ensures.ok in
-    let put = c.in_ok-report_full.ensures in
+    let put = c.in_ok-report_full.ensures.reports in
     runs_line c.args.runner.now.plan c.args.buffered.now c.args.from c.in-Some.count c.args.batching.now c.take_ahead.new.batching c.report_full.new.batching c.requires.ready
-    (subst (λ (from : ℕ). TakesAt c.args.buffered.now.bytes.now from c.in-Some.count c.args.batching.now c.take_ahead.new.batching) c.if-ahead-from.false taken) put.log put.number put.reports put.room
+    (subst (λ (from : ℕ). TakesAt c.args.buffered.now.bytes.now from c.in-Some.count c.args.batching.now c.take_ahead.new.batching) c.if-ahead-from.false taken) put
 
 pub returns-then-ahead-from : goal.returns-then-ahead-from
 returns-then-ahead-from g c = runs_none c.args.runner.now.plan c.args.buffered.now c.args.from c.args.batching.now c.requires.within c.requires.ready

@@ -41,10 +41,10 @@ returns-in_err-report_full g c =
 pub lines-preserved : goal.lines-preserved
 lines-preserved g c =
     let taken = rw c.in-Some.is at c.in_ok-count.ensures.ok in
-    let put = c.in_ok-report_full.ensures in
+    let put = c.in_ok-report_full.ensures.reports in
     runs_then c.args.runner.now.plan c.args.buffered.now c.args.from c.lines.at c.args.batching.now c.lines.batching c.report_full.new.batching (Ok (c.lines.at + c.in-Some.count)) c.lines.invariant
     (runs_line c.args.runner.now.plan c.args.buffered.now c.lines.at c.in-Some.count c.lines.batching c.take_next.new.batching c.report_full.new.batching c.lines.invariant.ready
-    taken put.log put.number put.reports put.room)
+    taken put)
 
 pub lines-smaller : goal.lines-smaller
 lines-smaller g c =

@@ -12,5 +12,8 @@ report_full-requires-clause-filling g c κs within =
 pub returns-clause-dealt : goal.returns-clause-dealt
 returns-clause-dealt g c =
     let took = c.in_ok-take_line.ensures.ok in
-    let put = c.in_ok-report_full.ensures in
-    (took.0, (took.1.0, dealt took.0 c.args.batching.now c.take_line.new.batching c.report_full.new.batching took.1.1 put.log put.number put.reports))
+    let put = c.in_ok-report_full.ensures.reports in
+    (took.0, (took.1.0, dealt c.args.runner.now.plan took.0 c.args.batching.now c.take_line.new.batching c.report_full.new.batching took.1.1 put))
+
+pub returns-clause-room : goal.returns-clause-room
+returns-clause-room g c = c.in_ok-report_full.ensures.reports.room

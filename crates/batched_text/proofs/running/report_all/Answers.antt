@@ -1,15 +1,23 @@
-use Rattle.std.proofs.Common.{◌∙◌, length, ap, refl, rules, sym, subst}
-use Rattle.sequencer.proofs.Beginnings.{begins_same}
+use Rattle.std.proofs.Common.{◌≡◌, ◌-◌, ◌∙◌, arith, length, length-drop, ap, refl, rules, sym, subst}
+use Rattle.std.specs.Prelude.{Err}
+use Rattle.line_io.specs.Ahead.{ahead}
+use Rattle.line_io.specs.Known.{raised}
+use Rattle.sequencer.proofs.Beginnings.{begins_further, begins_same}
 use Rattle.sequencer.specs.Catalog.{no_names}
+use Rattle.sequencer.specs.Foretelling.{Begins}
 use Rattle.sequencer.specs.Log.{Accepted}
 use Rattle.bohm_base.proofs.Reached.{begun_start}
 use Rattle.log_text.proofs.Total.{total_in}
-use Rattle.batched_text.specs.Batching.{IsLogOfText}
-use Rattle.batched_text.proofs.Cutting.{open_first, trimmed_all}
-use Rattle.batched_text.proofs.Faults.{reads_told, writes_told}
-use Rattle.batched_text.proofs.Ended.{batched_start, begun_whole, ended_batched, log_ended}
-use Rattle.batched_text.proofs.Histories.{none_wait}
-use Rattle.batched_text.proofs.ReadSofar.{read_begun_start, read_whole}
+use Rattle.batched_text.specs.Batching.{IsLogOfText, ReportsFirst}
+use Rattle.batched_text.specs.Foretold.{log_names}
+use Rattle.batched_text.specs.declared.batching.Batching.{Batching}
+use Rattle.batched_text.proofs.Cutting.{open_first, reports_early, reports_none, trimmed_all}
+use Rattle.batched_text.proofs.Faults.{reads_failed, reads_told, writes_failed, writes_told}
+use Rattle.batched_text.proofs.Ended.{batched_start, batched_written, begun_cut, begun_whole, ended_batched, log_ended}
+use Rattle.batched_text.proofs.Histories.{may_wait, none_wait}
+use Rattle.batched_text.proofs.ReadSofar.{read_begun_cut, read_begun_start, read_whole, run_begun}
+use Rattle.batched_text.proofs.RunLines.{ready_start, runs_early, runs_early_fault}
+use Rattle.batched_text.proofs.running.report_all.Goals.{in-Kept, in-Dropped+in_ok-report_batch-in-Dropped}
 use Rattle.batched_text.proofs.running.report_all.Goals as goal
 
 pub returns-in_err-lines-clause-begun : goal.returns-in_err-lines-clause-begun
@@ -18,73 +26,246 @@ returns-in_err-lines-clause-begun g c = begun_start total_in _ _ _ c.requires.fi
 pub returns-in_err-lines-clause-begun_read : goal.returns-in_err-lines-clause-begun_read
 returns-in_err-lines-clause-begun_read g c = read_begun_start total_in _ _ _ c.requires.first.nothing
 
-pub report_rest-requires-clause-ready : goal.report_rest-requires-clause-ready
-report_rest-requires-clause-ready g c κs within = record {
-  room = open_first c.args.runner.now.plan c.args.batching.now c.requires.within c.requires.first;
-  bounded = search rules;
-  numbered = search rules;
+pub turns-init : goal.turns-init
+turns-init g c = record {
+  names = rw (c.seeded-lookahead.ensures, ap (λ (log : Accepted). log.names) c.requires.first.log) (begins_same no_names);
+  nothing = c.requires.first.nothing;
+  none = none_wait c.args.runner.now.plan.history _ c.requires.first.nobody;
+  ready = record {
+    room = open_first c.args.runner.now.plan c.args.batching.now c.requires.within c.requires.first;
+    bounded = search rules;
+    numbered = search rules;
+  };
+  batched = batched_start _ _ _ c.args.batching.now c.in_ok-lines.ensures c.requires.first;
+  read_errors = refl;
+  write_errors = refl;
+  flushes = refl;
 }
 
-pub report_rest-requires-clause-none : goal.report_rest-requires-clause-none
-report_rest-requires-clause-none g c κs within = none_wait c.args.runner.now.plan.history _ c.requires.first.nobody
+pub returns-in_err-report_line-clause-begun : goal.returns-in_err-report_line-clause-begun
+returns-in_err-report_line-clause-begun g c =
+    (c.report_line.ensures.turn (g.W.Write.contents c.turns.writer.inner)).begun _ _ c.turns.invariant.batched
 
-pub report_rest-requires-clause-begins : goal.report_rest-requires-clause-begins
-report_rest-requires-clause-begins g c κs within =
-    rw (c.seeded-lookahead.ensures, ap (λ (log : Accepted). log.names) c.requires.first.log) (begins_same no_names)
+pub returns-in_err-report_line-clause-begun_read : goal.returns-in_err-report_line-clause-begun_read
+returns-in_err-report_line-clause-begun_read g c =
+    (c.report_line.ensures.turn (g.W.Write.contents c.turns.writer.inner)).begun_read _ _ c.turns.invariant.batched
 
-pub returns-in_err-report_rest-clause-begun : goal.returns-in_err-report_rest-clause-begun
-returns-in_err-report_rest-clause-begun g c =
-    c.report_rest.ensures.ends.begun _ _ (batched_start _ _ _ c.args.batching.now c.in_ok-lines.ensures c.requires.first)
+pub returns-in_err-taken-clause-begun : goal.returns-in_err-taken-clause-begun
+returns-in_err-taken-clause-begun g c =
+    let took = (rw c.if-branch.true at (c.in_ok-report_line.ensures.turn (g.W.Write.contents c.turns.writer.inner)).taken) refl in
+    let so = took.batched _ _ c.turns.invariant.batched in
+    (rw c.bytes_ahead-bytes.ensures at c.deal_at_hand.ensures.runs.begun) _ (g.R.Read.remaining c.args.reader.now.inner) (g.W.Write.contents c.args.writer.now.inner) _ so
 
-pub returns-in_err-report_rest-clause-begun_read : goal.returns-in_err-report_rest-clause-begun_read
-returns-in_err-report_rest-clause-begun_read g c =
-    c.report_rest.ensures.ends.begun_read _ _ (batched_start _ _ _ c.args.batching.now c.in_ok-lines.ensures c.requires.first)
+pub returns-in_err-taken-clause-begun_read : goal.returns-in_err-taken-clause-begun_read
+returns-in_err-taken-clause-begun_read g c =
+    let took = (rw c.if-branch.true at (c.in_ok-report_line.ensures.turn (g.W.Write.contents c.turns.writer.inner)).taken) refl in
+    let so = took.batched _ _ c.turns.invariant.batched in
+    run_begun (g.R.Read.remaining c.args.reader.now.inner) _ (g.W.Write.contents c.args.writer.now.inner) _ (ahead c.report_line.new.lines) c.report_line.new.batching c.deal_at_hand.new.batching
+    (rw c.bytes_ahead-bytes.ensures at c.deal_at_hand.ensures.runs.begun) so
+
+pub returns-in_err-report_batch-in-Dropped-clause-begun : goal.returns-in_err-report_batch-in-Dropped-clause-begun
+returns-in_err-report_batch-in-Dropped-clause-begun g c =
+    let took = (rw c.if-branch.true at (c.in_ok-report_line.ensures.turn (g.W.Write.contents c.turns.writer.inner)).taken) refl in
+    let so = took.batched _ _ c.turns.invariant.batched in
+    let told = runs_early_fault c.args.runner.now.plan (record { bytes = c.bytes_ahead-bytes.result; given = c.report_line.new.reader.given }) 0 c.in_ok-taken.taken c.report_line.new.batching
+    c.deal_at_hand.new.batching c.report_batch.new.batching (Err c.in_err-report_batch-in-Dropped.field-0.0) c.in_ok-taken.ensures.runs
+    c.in_err-report_batch-in-Dropped.ensures.err c.in_err-report_batch-in-Dropped.ensures.stops in
+    let begun = rw c.bytes_ahead-bytes.ensures at told.begun in
+    begun _ (g.R.Read.remaining c.args.reader.now.inner) (g.W.Write.contents c.args.writer.now.inner) _ so
+
+pub returns-in_err-report_batch-in-Dropped-clause-begun_read : goal.returns-in_err-report_batch-in-Dropped-clause-begun_read
+returns-in_err-report_batch-in-Dropped-clause-begun_read g c =
+    let took = (rw c.if-branch.true at (c.in_ok-report_line.ensures.turn (g.W.Write.contents c.turns.writer.inner)).taken) refl in
+    let so = took.batched _ _ c.turns.invariant.batched in
+    let told = runs_early_fault c.args.runner.now.plan (record { bytes = c.bytes_ahead-bytes.result; given = c.report_line.new.reader.given }) 0 c.in_ok-taken.taken c.report_line.new.batching
+    c.deal_at_hand.new.batching c.report_batch.new.batching (Err c.in_err-report_batch-in-Dropped.field-0.0) c.in_ok-taken.ensures.runs
+    c.in_err-report_batch-in-Dropped.ensures.err c.in_err-report_batch-in-Dropped.ensures.stops in
+    let begun = rw c.bytes_ahead-bytes.ensures at told.begun in
+    run_begun (g.R.Read.remaining c.args.reader.now.inner) _ (g.W.Write.contents c.args.writer.now.inner) _ (ahead c.report_line.new.lines) c.report_line.new.batching c.report_batch.new.batching begun so
+
+pub returns-in_err-write_pending-clause-begun : goal.returns-in_err-write_pending-clause-begun
+returns-in_err-write_pending-clause-begun g c =
+    let took = (rw c.if-branch.true at (c.in_ok-report_line.ensures.turn (g.W.Write.contents c.turns.writer.inner)).taken) refl in
+    let so = took.batched _ _ c.turns.invariant.batched in
+    let put : ReportsFirst c.args.runner.now.plan c.deal_at_hand.new.batching c.match-runner.batching =
+    elim c.match-runner.branch [
+      | in-Kept w ↦ subst (ReportsFirst c.args.runner.now.plan c.deal_at_hand.new.batching) (sym w.batching-is) (reports_none c.args.runner.now.plan c.deal_at_hand.new.batching c.in_ok-taken.ensures.runs.ready.ready.room)
+      | in-Dropped+in_ok-report_batch-in-Dropped w ↦ subst (ReportsFirst c.args.runner.now.plan c.deal_at_hand.new.batching) (sym w.batching-is)
+          (reports_early c.args.runner.now.plan c.deal_at_hand.new.batching w.report_batch.new.batching c.in_ok-taken.ensures.runs.ready.ready.room.filling w.in-Dropped.is
+          w.in_ok-report_batch-in-Dropped.ensures.reports)
+    ] in
+    let early = runs_early c.args.runner.now.plan (record { bytes = c.bytes_ahead-bytes.result; given = c.report_line.new.reader.given }) 0 c.in_ok-taken.taken c.report_line.new.batching
+    c.deal_at_hand.new.batching c.match-runner.batching c.in_ok-taken.ensures.runs put in
+    let runs = rw c.bytes_ahead-bytes.ensures at early in
+    begun_cut (g.R.Read.remaining c.args.reader.now.inner) (g.W.Write.contents c.args.writer.now.inner) _ _ c.match-runner.batching.pending.items c.write_pending.new.pending.items
+    (runs.begun _ (g.R.Read.remaining c.args.reader.now.inner) (g.W.Write.contents c.args.writer.now.inner) _ so) c.write_pending.ensures.front c.write_pending.ensures.empty
+
+pub returns-in_err-write_pending-clause-begun_read : goal.returns-in_err-write_pending-clause-begun_read
+returns-in_err-write_pending-clause-begun_read g c =
+    let took = (rw c.if-branch.true at (c.in_ok-report_line.ensures.turn (g.W.Write.contents c.turns.writer.inner)).taken) refl in
+    let so = took.batched _ _ c.turns.invariant.batched in
+    let put : ReportsFirst c.args.runner.now.plan c.deal_at_hand.new.batching c.match-runner.batching =
+    elim c.match-runner.branch [
+      | in-Kept w ↦ subst (ReportsFirst c.args.runner.now.plan c.deal_at_hand.new.batching) (sym w.batching-is) (reports_none c.args.runner.now.plan c.deal_at_hand.new.batching c.in_ok-taken.ensures.runs.ready.ready.room)
+      | in-Dropped+in_ok-report_batch-in-Dropped w ↦ subst (ReportsFirst c.args.runner.now.plan c.deal_at_hand.new.batching) (sym w.batching-is)
+          (reports_early c.args.runner.now.plan c.deal_at_hand.new.batching w.report_batch.new.batching c.in_ok-taken.ensures.runs.ready.ready.room.filling w.in-Dropped.is
+          w.in_ok-report_batch-in-Dropped.ensures.reports)
+    ] in
+    let early = runs_early c.args.runner.now.plan (record { bytes = c.bytes_ahead-bytes.result; given = c.report_line.new.reader.given }) 0 c.in_ok-taken.taken c.report_line.new.batching
+    c.deal_at_hand.new.batching c.match-runner.batching c.in_ok-taken.ensures.runs put in
+    let runs = rw c.bytes_ahead-bytes.ensures at early in
+    read_begun_cut (g.R.Read.remaining c.args.reader.now.inner) _ (g.W.Write.contents c.args.writer.now.inner) _ _ c.match-runner.batching.pending.items c.write_pending.new.pending.items
+    (run_begun (g.R.Read.remaining c.args.reader.now.inner) _ (g.W.Write.contents c.args.writer.now.inner) _ (ahead c.report_line.new.lines) c.report_line.new.batching c.match-runner.batching runs.begun so)
+    c.write_pending.ensures.front c.write_pending.ensures.empty
+
+pub returns-in_err-taken-clause-reads : goal.returns-in_err-taken-clause-reads
+returns-in_err-taken-clause-reads g c =
+    c.in_ok-report_line.ensures.reads ∙ c.turns.invariant.read_errors
+    ∙ reads_told _ c.in_err-taken.field-0.0 c.from_residual-in_err-taken.result c.args.reader.now.errors c.from_residual-in_err-taken.ensures.1
+    c.in_err-taken.ensures.runs.err
+
+pub returns-in_err-taken-clause-writes : goal.returns-in_err-taken-clause-writes
+returns-in_err-taken-clause-writes g c =
+    c.turns.invariant.write_errors
+    ∙ writes_told _ c.in_err-taken.field-0.0 c.from_residual-in_err-taken.result c.args.writer.now.errors c.from_residual-in_err-taken.ensures.1
+    c.in_err-taken.ensures.runs.err
+
+pub returns-in_err-report_batch-in-Dropped-clause-reads : goal.returns-in_err-report_batch-in-Dropped-clause-reads
+returns-in_err-report_batch-in-Dropped-clause-reads g c =
+    c.in_ok-report_line.ensures.reads ∙ c.turns.invariant.read_errors
+    ∙ reads_told _ c.in_err-report_batch-in-Dropped.field-0.0 c.from_residual-in_err-report_batch-in-Dropped.result c.args.reader.now.errors c.from_residual-in_err-report_batch-in-Dropped.ensures.1
+    c.in_err-report_batch-in-Dropped.ensures.stops
+
+pub returns-in_err-report_batch-in-Dropped-clause-writes : goal.returns-in_err-report_batch-in-Dropped-clause-writes
+returns-in_err-report_batch-in-Dropped-clause-writes g c =
+    c.turns.invariant.write_errors
+    ∙ writes_told _ c.in_err-report_batch-in-Dropped.field-0.0 c.from_residual-in_err-report_batch-in-Dropped.result c.args.writer.now.errors c.from_residual-in_err-report_batch-in-Dropped.ensures.1
+    c.in_err-report_batch-in-Dropped.ensures.stops
+
+pub returns-in_err-write_pending-clause-reads : goal.returns-in_err-write_pending-clause-reads
+returns-in_err-write_pending-clause-reads g c =
+    c.in_ok-report_line.ensures.reads ∙ c.turns.invariant.read_errors
+    ∙ reads_failed _ c.from_residual-in_err-write_pending.result c.args.reader.now.errors c.from_residual-in_err-write_pending.ensures.1
+
+pub returns-in_err-write_pending-clause-writes : goal.returns-in_err-write_pending-clause-writes
+returns-in_err-write_pending-clause-writes g c =
+    c.in_err-write_pending.ensures.err ∙ ap raised c.turns.invariant.write_errors
+    ∙ writes_failed _ c.from_residual-in_err-write_pending.result c.args.writer.now.errors c.from_residual-in_err-write_pending.ensures.1
+
+pub deal_at_hand-requires-clause-begins : goal.deal_at_hand-requires-clause-begins
+deal_at_hand-requires-clause-begins g c κs within =
+    begins_further c.turns.lookahead.names (log_names c.turns.batching) (log_names c.report_line.new.batching) c.turns.invariant.names
+    c.in_ok-report_line.ensures.begins
+
+pub deal_at_hand-requires-clause-ready : goal.deal_at_hand-requires-clause-ready
+deal_at_hand-requires-clause-ready g c κs within =
+    let took = (rw c.if-branch.true at (c.in_ok-report_line.ensures.turn (g.W.Write.contents c.turns.writer.inner)).taken) refl in
+    ready_start c.args.runner.now.plan (record { bytes = c.bytes_ahead-bytes.result; given = c.report_line.new.reader.given }) c.report_line.new.batching
+    (rw c.bytes_ahead-bytes.ensures took.ready) took.begun
 
 pub report_batch-requires-clause-filling : goal.report_batch-requires-clause-filling
-report_batch-requires-clause-filling g c κs within = (c.in_ok-report_rest.ensures.ends.room refl).filling
+report_batch-requires-clause-filling g c κs within =
+    c.in_ok-taken.ensures.runs.ready.ready.room.filling
+
+pub turns-preserved : goal.turns-preserved
+turns-preserved g c =
+    let took = (rw c.if-branch.true at (c.in_ok-report_line.ensures.turn (g.W.Write.contents c.turns.writer.inner)).taken) refl in
+    let so = took.batched _ _ c.turns.invariant.batched in
+    let put : ReportsFirst c.args.runner.now.plan c.deal_at_hand.new.batching c.match-runner.batching =
+    elim c.match-runner.branch [
+      | in-Kept w ↦ subst (ReportsFirst c.args.runner.now.plan c.deal_at_hand.new.batching) (sym w.batching-is) (reports_none c.args.runner.now.plan c.deal_at_hand.new.batching c.in_ok-taken.ensures.runs.ready.ready.room)
+      | in-Dropped+in_ok-report_batch-in-Dropped w ↦ subst (ReportsFirst c.args.runner.now.plan c.deal_at_hand.new.batching) (sym w.batching-is)
+          (reports_early c.args.runner.now.plan c.deal_at_hand.new.batching w.report_batch.new.batching c.in_ok-taken.ensures.runs.ready.ready.room.filling w.in-Dropped.is
+          w.in_ok-report_batch-in-Dropped.ensures.reports)
+    ] in
+    let early = runs_early c.args.runner.now.plan (record { bytes = c.bytes_ahead-bytes.result; given = c.report_line.new.reader.given }) 0 c.in_ok-taken.taken c.report_line.new.batching
+    c.deal_at_hand.new.batching c.match-runner.batching c.in_ok-taken.ensures.runs put in
+    let runs = rw c.bytes_ahead-bytes.ensures at early in
+    let still = runs.ready.ready.room.filling in
+    let left : length (ahead c.take_ahead.new.self) ≡ length (ahead c.report_line.new.lines) - c.in_ok-taken.taken =
+    ap length c.take_ahead.ensures.ahead ∙ length-drop c.in_ok-taken.taken (ahead c.report_line.new.lines) in
+    let reads : c.report_line.new.reader.errors ≡ c.turns.reader.errors = c.in_ok-report_line.ensures.reads in
+    let writes : c.write_pending.new.writer.errors ≡ c.turns.writer.errors = c.in_ok-write_pending.ensures.same in
+    record {
+      names = subst (λ (log : Accepted). Begins c.deal_at_hand.new.lookahead.names log.names) (sym put.log) c.in_ok-taken.ensures.names;
+      nothing = search rules;
+      none = elim c.match-runner.branch [
+        | in-Kept w ↦ may_wait c.args.runner.now.plan.history c.match-runner.batching.waiting.items w.in-Kept.is
+        | in-Dropped+in_ok-report_batch-in-Dropped w ↦ none_wait c.args.runner.now.plan.history c.match-runner.batching.waiting.items
+            (ap (λ (batching : Batching). batching.waiting.items) w.batching-is ∙ w.in_ok-report_batch-in-Dropped.ensures.reports.left)
+      ];
+      ready = record {
+        room = record {
+          filling = record { within = still.within; whole = still.whole; counted = still.counted; few = still.few; kept = still.kept; cut = still.cut; most = still.most };
+          less = runs.ready.ready.room.less;
+        };
+        bounded = λ some. runs.ready.ready.bounded (omega (arith, some, left));
+        numbered = omega (arith, runs.ready.ready.numbered, left);
+      };
+      batched = batched_written (g.R.Read.remaining c.args.reader.now.inner) _ (g.W.Write.contents c.args.writer.now.inner) _ _ c.match-runner.batching.pending.items c.write_pending.new.pending.items _ _ _ _
+          (rw c.take_ahead.ensures.ahead (runs.taken _ (g.R.Read.remaining c.args.reader.now.inner) (g.W.Write.contents c.args.writer.now.inner) _ so)) c.in_ok-write_pending.ensures.ok c.write_pending.ensures.empty;
+      read_errors = reads ∙ c.turns.invariant.read_errors;
+      write_errors = writes ∙ c.turns.invariant.write_errors;
+      flushes = c.write_pending.ensures.flushes ∙ c.turns.invariant.flushes;
+    }
+
+pub turns-smaller : goal.turns-smaller
+turns-smaller g c =
+    let took = (rw c.if-branch.true at (c.in_ok-report_line.ensures.turn (g.W.Write.contents c.turns.writer.inner)).taken) refl in
+    let left : length (ahead c.take_ahead.new.self) ≡ length (ahead c.report_line.new.lines) - c.in_ok-taken.taken =
+    ap length c.take_ahead.ensures.ahead ∙ length-drop c.in_ok-taken.taken (ahead c.report_line.new.lines) in
+    omega (arith, took.forward, took.most, left)
+
+pub report_batch-requires-2-clause-filling : goal.report_batch-requires-2-clause-filling
+report_batch-requires-2-clause-filling g c κs within = ((rw c.if-branch.false at (c.in_ok-report_line.ensures.turn (g.W.Write.contents c.turns.writer.inner)).room) refl).filling
 
 pub returns-in_err-report_batch-clause-begun : goal.returns-in_err-report_batch-clause-begun
-returns-in_err-report_batch-clause-begun g c = rw c.in_err-report_batch.ensures.err (c.report_rest.ensures.ends.begun _ _ (batched_start _ _ _ c.args.batching.now c.in_ok-lines.ensures c.requires.first))
+returns-in_err-report_batch-clause-begun g c = rw c.in_err-report_batch.ensures.err ((c.in_ok-report_line.ensures.turn (g.W.Write.contents c.turns.writer.inner)).begun _ _ c.turns.invariant.batched)
 
 pub returns-in_err-report_batch-clause-begun_read : goal.returns-in_err-report_batch-clause-begun_read
-returns-in_err-report_batch-clause-begun_read g c = rw c.in_err-report_batch.ensures.err (c.report_rest.ensures.ends.begun_read _ _ (batched_start _ _ _ c.args.batching.now c.in_ok-lines.ensures c.requires.first))
+returns-in_err-report_batch-clause-begun_read g c = rw c.in_err-report_batch.ensures.err ((c.in_ok-report_line.ensures.turn (g.W.Write.contents c.turns.writer.inner)).begun_read _ _ c.turns.invariant.batched)
 
 pub returns-clause-log : goal.returns-clause-log
 returns-clause-log g c =
-    subst (λ (log : Accepted). IsLogOfText (g.R.Read.remaining c.args.reader.now.inner) log) (sym c.in_ok-report_batch.ensures.log) (log_ended _ _ _ _ c.report_rest.new.batching (c.in_ok-report_rest.ensures.ends.done refl _ _ (batched_start _ _ _ c.args.batching.now c.in_ok-lines.ensures c.requires.first)))
+    let ended = (rw c.if-branch.false at (c.in_ok-report_line.ensures.turn (g.W.Write.contents c.turns.writer.inner)).ended) refl _ _ c.turns.invariant.batched in
+    subst (λ (log : Accepted). IsLogOfText (g.R.Read.remaining c.args.reader.now.inner) log) (sym c.in_ok-report_batch.ensures.reports.log) (log_ended _ _ _ _ c.report_line.new.batching ended)
+
+pub returns-clause-kept : goal.returns-clause-kept
+returns-clause-kept g c = c.in_ok-report_batch.ensures.reports.kept
 
 pub returns-clause-all : goal.returns-clause-all
-returns-clause-all g c = c.in_ok-report_batch.ensures.all ∙ ap (λ (log : Accepted). length log.statements) (sym c.in_ok-report_batch.ensures.log)
+returns-clause-all g c = c.in_ok-report_batch.ensures.reports.all ∙ ap (λ (log : Accepted). length log.statements) (sym c.in_ok-report_batch.ensures.reports.log)
 
 pub returns-clause-trimmed : goal.returns-clause-trimmed
 returns-clause-trimmed g c =
-    let put = c.in_ok-report_batch.ensures in
-    trimmed_all c.args.runner.now.plan c.report_rest.new.batching c.report_batch.new.batching
-    (record { log = put.log; left = put.left; number = put.number; all = put.all; mark = put.mark })
-    (c.in_ok-report_rest.ensures.ends.room refl).filling
+    trimmed_all c.args.runner.now.plan c.report_line.new.batching c.report_batch-2.new.batching c.in_ok-report_batch.ensures.reports
+    ((rw c.if-branch.false at (c.in_ok-report_line.ensures.turn (g.W.Write.contents c.turns.writer.inner)).room) refl).filling
 
 pub returns-clause-done : goal.returns-clause-done
 returns-clause-done g c =
-    ended_batched _ _ c.report_rest.new.batching c.report_batch.new.batching.pending.items c.in_ok-report_batch.ensures.told _ _ (c.in_ok-report_rest.ensures.ends.done refl _ _ (batched_start _ _ _ c.args.batching.now c.in_ok-lines.ensures c.requires.first))
+    ended_batched _ _ c.report_line.new.batching c.report_batch-2.new.batching.pending.items c.in_ok-report_batch.ensures.reports.told _ _
+    ((rw c.if-branch.false at (c.in_ok-report_line.ensures.turn (g.W.Write.contents c.turns.writer.inner)).ended) refl _ _ c.turns.invariant.batched)
 
 pub returns-clause-begun : goal.returns-clause-begun
 returns-clause-begun g c =
-    begun_whole _ _ _ c.report_batch.new.batching.pending.items
-    (ended_batched _ _ c.report_rest.new.batching c.report_batch.new.batching.pending.items c.in_ok-report_batch.ensures.told _ _ (c.in_ok-report_rest.ensures.ends.done refl _ _ (batched_start _ _ _ c.args.batching.now c.in_ok-lines.ensures c.requires.first)))
+    let ended = (rw c.if-branch.false at (c.in_ok-report_line.ensures.turn (g.W.Write.contents c.turns.writer.inner)).ended) refl _ _ c.turns.invariant.batched in
+    begun_whole _ _ _ c.report_batch-2.new.batching.pending.items
+    (ended_batched _ _ c.report_line.new.batching c.report_batch-2.new.batching.pending.items c.in_ok-report_batch.ensures.reports.told _ _ ended)
 
 pub returns-clause-begun_read : goal.returns-clause-begun_read
 returns-clause-begun_read g c =
-    read_whole _ _ _ _ _ c.report_rest.new.batching c.report_batch.new.batching.pending.items (c.in_ok-report_rest.ensures.ends.done refl _ _ (batched_start _ _ _ c.args.batching.now c.in_ok-lines.ensures c.requires.first))
-    (ended_batched _ _ c.report_rest.new.batching c.report_batch.new.batching.pending.items c.in_ok-report_batch.ensures.told _ _ (c.in_ok-report_rest.ensures.ends.done refl _ _ (batched_start _ _ _ c.args.batching.now c.in_ok-lines.ensures c.requires.first)))
+    let ended = (rw c.if-branch.false at (c.in_ok-report_line.ensures.turn (g.W.Write.contents c.turns.writer.inner)).ended) refl _ _ c.turns.invariant.batched in
+    read_whole _ _ _ _ _ c.report_line.new.batching c.report_batch-2.new.batching.pending.items ended
+    (ended_batched _ _ c.report_line.new.batching c.report_batch-2.new.batching.pending.items c.in_ok-report_batch.ensures.reports.told _ _ ended)
 
 pub returns-in_err-report_batch-clause-reads : goal.returns-in_err-report_batch-clause-reads
 returns-in_err-report_batch-clause-reads g c =
-    c.in_ok-report_rest.ensures.reads
+    c.in_ok-report_line.ensures.reads ∙ c.turns.invariant.read_errors
     ∙ reads_told _ c.in_err-report_batch.field-0.0 c.from_residual-in_err-report_batch.result c.args.reader.now.errors
     c.from_residual-in_err-report_batch.ensures.1 c.in_err-report_batch.ensures.stops
 
 pub returns-in_err-report_batch-clause-writes : goal.returns-in_err-report_batch-clause-writes
 returns-in_err-report_batch-clause-writes g c =
-    c.in_ok-report_rest.ensures.writes
+    c.turns.invariant.write_errors
     ∙ writes_told _ c.in_err-report_batch.field-0.0 c.from_residual-in_err-report_batch.result c.args.writer.now.errors
     c.from_residual-in_err-report_batch.ensures.1 c.in_err-report_batch.ensures.stops

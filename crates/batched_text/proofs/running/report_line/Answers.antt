@@ -53,18 +53,18 @@ returns-clause-turn g c = λ held.
         begun = omega (arith, dealt.1.1.number, before.few);
         forward = given.0;
         most = given.1;
-        batched = λ input out so. batched_step input _ _ out _ (found_line c.next_line.new.lines) dealt.0 c.args.batching.now c.deal.new.batching so
+        batched = λ input out so. batched_step input _ _ out _ (found_line c.next_line.new.self) dealt.0 c.args.batching.now c.deal.new.batching so
             (rw c.if-not-branch.false at c.in_ok-next_line.ensures.line) dealt.1.0 dealt.1.1 (omega (arith, before.counted))
             (record { whole = room.whole; within = omega (arith, room.counted) });
       };
       room = search rules;
       ended = search rules;
       begun = λ input out so. begun_batched total_in input _ out _ _ _ _ _ _
-          (batched_step input _ _ out _ (found_line c.next_line.new.lines) dealt.0 c.args.batching.now c.deal.new.batching so
+          (batched_step input _ _ out _ (found_line c.next_line.new.self) dealt.0 c.args.batching.now c.deal.new.batching so
           (rw c.if-not-branch.false at c.in_ok-next_line.ensures.line) dealt.1.0 dealt.1.1 (omega (arith, before.counted))
           (record { whole = room.whole; within = omega (arith, room.counted) }));
-      begun_read = λ input out so. read_begun _ _ _ _ _ _ _ total_in input _ _ (ahead c.next_line.new.lines)
-          (batched_step input _ _ out _ (found_line c.next_line.new.lines) dealt.0 c.args.batching.now c.deal.new.batching so
+      begun_read = λ input out so. read_begun _ _ _ _ _ _ _ total_in input _ _ (ahead c.next_line.new.self)
+          (batched_step input _ _ out _ (found_line c.next_line.new.self) dealt.0 c.args.batching.now c.deal.new.batching so
           (rw c.if-not-branch.false at c.in_ok-next_line.ensures.line) dealt.1.0 dealt.1.1 (omega (arith, before.counted))
           (record { whole = room.whole; within = omega (arith, room.counted) })) (read_none _);
     }

@@ -6,7 +6,7 @@ use Rattle.sequencer.specs.Log.{Accepted}
 use Rattle.batched_text.specs.Foretold.{log_names}
 use Rattle.batched_text.proofs.LaterNames.{begins_in}
 use Rattle.batched_text.proofs.RunLines.{runs_told}
-use Rattle.batched_text.proofs.lookahead.report_stretch.Goals as goal
+use Rattle.batched_text.proofs.lookahead.deal_at_hand.Goals as goal
 
 pub returns-in_err-taken-clause-runs : goal.returns-in_err-taken-clause-runs
 returns-in_err-taken-clause-runs g c =

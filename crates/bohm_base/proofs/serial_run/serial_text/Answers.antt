@@ -1,6 +1,6 @@
 use Rattle.log_text.proofs.Total.{total_in}
 use Rattle.bohm_base.proofs.Beginnings.{all_written, nothing_written, some_written}
-use Rattle.bohm_base.proofs.serial_run.serial_text_seeded.Goals as goal
+use Rattle.bohm_base.proofs.serial_run.serial_text.Goals as goal
 
 pub returns-in_err-pending-clause-begun : goal.returns-in_err-pending-clause-begun
 returns-in_err-pending-clause-begun g c = nothing_written total_in _ _

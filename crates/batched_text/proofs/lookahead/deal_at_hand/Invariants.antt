@@ -1,4 +1,4 @@
-use Rattle.batched_text.proofs.lookahead.report_stretch.Given as goal
+use Rattle.batched_text.proofs.lookahead.deal_at_hand.Given as goal
 
 -- it is by these names and of these bytes
 abbrev pub ghosts-run_ahead : goal.ghosts-run_ahead

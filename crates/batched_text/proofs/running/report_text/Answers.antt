@@ -4,7 +4,7 @@ use Rattle.bohm_base.proofs.Beginnings.{nothing_written}
 use Rattle.log_text.proofs.Total.{total_in}
 use Rattle.batched_text.proofs.Faults.{never_bad, read_told, write_told}
 use Rattle.batched_text.proofs.ReadSofar.{read_nothing}
-use Rattle.batched_text.proofs.running.report_text_seeded.Goals as goal
+use Rattle.batched_text.proofs.running.report_text.Goals as goal
 
 pub returns-then-not-are_within_limits-clause-begun : goal.returns-then-not-are_within_limits-clause-begun
 returns-then-not-are_within_limits-clause-begun g c = nothing_written total_in _ _

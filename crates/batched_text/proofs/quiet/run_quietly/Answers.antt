@@ -1,6 +1,6 @@
 use Rattle.std.proofs.Common.{refl}
 use Rattle.batched_text.proofs.Faults.{read_on}
-use Rattle.batched_text.proofs.quiet.run_quietly_seeded.Goals as goal
+use Rattle.batched_text.proofs.quiet.run_quietly.Goals as goal
 
 pub returns-in_err-run_lines-clause-other : goal.returns-in_err-run_lines-clause-other
 returns-in_err-run_lines-clause-other g c =

@@ -2,7 +2,7 @@ use Rattle.std.proofs.Common.{◌≤◌, length, refl}
 use Rattle.model_base.specs.declared.limits.TheConstants.{MOST_PLACES}
 use Rattle.batched_text.proofs.Faults.{read_on}
 use Rattle.batched_text.proofs.Fronts.{front_ended, up_to}
-use Rattle.batched_text.proofs.reaching.run_quietly_to_seeded.Goals as goal
+use Rattle.batched_text.proofs.reaching.run_quietly_to.Goals as goal
 
 pub returns-clause-log : goal.returns-clause-log
 returns-clause-log g c =
