@@ -5,3 +5,4 @@ pub mod Pictured
 pub mod Below
 pub mod Fallen
 pub mod Lines
+pub mod SpelledRecords

@@ -10,7 +10,7 @@ use crate::fault::AuditFault;
 use crate::putting::put_answer;
 use crate::question::Question;
 use crate::writing::write_text;
-use batched_text::run_quietly_to_seeded;
+use batched_text::run_quietly_to;
 use engine::Engine;
 use line_io::Counted;
 use model_base::HashSeed;
@@ -47,7 +47,8 @@ fn write_answer<W: Write>(
 
 /// Reads a log up to the line of a place, or to its end where it hasn't the place, and runs what it read; then it writes why the place
 /// was admitted or denied: the report's line for the place, then a line for each need of its statement up to the first that isn't held,
-/// as `audit_text` spells it, and `checked` where that is asked. Then the writer is flushed. The log's report isn't made.
+/// as `audit_text` spells it, and `checked` where that is asked. Then the writer is flushed. The log's report isn't made. Maps find their
+/// keys under `seed`.
 ///
 /// What comes after the place's line changes nothing of its explanation. It isn't taken, and the reader isn't asked for more once that line
 /// is available: a reader that fails later is never met. Names, rows and grants are kept, and of statements and outcomes those of one
@@ -62,6 +63,7 @@ pub fn explain_text<T: Threads + Wait + Sync, R: Read, W: Write>(
     reader: &mut Counted<R>,
     writer: &mut Counted<W>,
     question: Question,
+    seed: HashSeed,
 ) -> Result<(), AuditFault>
     // What was written is the explanation of the place of the whole log, of which only the lines up to the place's were taken.
     ensures done { OnOk result (IfSome (R.remaining reader.old.inner) (λ input. (text : List ℕ)
@@ -81,30 +83,6 @@ pub fn explain_text<T: Threads + Wait + Sync, R: Read, W: Write>(
     // Ok says that the writer was flushed once, and not written to since.
     ensures flushed { OnOk result ((writer.new.flushes ≡ raised writer.old.flushes) × (writer.new.is_flushed ≡ true)) }
 {
-    explain_text_seeded(rt, alloc, reader, writer, question, HashSeed::fixed())
-}
-
-/// The same, by maps that find their keys under this seed.
-pub fn explain_text_seeded<T: Threads + Wait + Sync, R: Read, W: Write>(
-    rt: &T,
-    alloc: Global,
-    reader: &mut Counted<R>,
-    writer: &mut Counted<W>,
-    question: Question,
-    seed: HashSeed,
-) -> Result<(), AuditFault>
-    ensures done { OnOk result (IfSome (R.remaining reader.old.inner) (λ input. (text : List ℕ)
-        × (IsExplanation input question text × Appends (W.contents writer.old.inner) (W.contents writer.new.inner) text))) }
-    ensures begun { IfSome (R.remaining reader.old.inner) (λ input. (W.contents writer.new.inner ≡ W.contents writer.old.inner)
-        ⊎ ((text : List ℕ) × (IsExplanation input question text
-        × AppendsFront (W.contents writer.old.inner) (W.contents writer.new.inner) text))) }
-    ensures none { result ≡ Err AuditFault.NoSuchPlace
-        → (writer.new ≡ writer.old) × IfSome (R.remaining reader.old.inner) (λ input. HasNoPlace input question.place) }
-    ensures read { result ≡ Err AuditFault.Read → reader.old.errors < 2 ^ 64 - 1 → reader.old.errors < reader.new.errors }
-    ensures write { result ≡ Err AuditFault.Write → writer.old.errors < 2 ^ 64 - 1 → writer.old.errors < writer.new.errors }
-    ensures whole { OnOk result ((reader.new.errors ≡ reader.old.errors) × (writer.new.errors ≡ writer.old.errors)) }
-    ensures flushed { OnOk result ((writer.new.flushes ≡ raised writer.old.flushes) × (writer.new.is_flushed ≡ true)) }
-{
-    let engine = run_quietly_to_seeded(rt, alloc, reader, Some(question.place), seed)?;
+    let engine = run_quietly_to(rt, alloc, reader, Some(question.place), seed)?;
     write_answer(alloc, writer, &engine, question)
 }

@@ -1,11 +1,10 @@
 //! An explanation as text.
 
 ghost use Rattle.std.specs.Prelude.{◌≡◌, ◌<◌, ◌++◌, OnOk, length};
-ghost use Rattle.model_base.specs.RecordGrantees.{WereGranted};
 ghost use Rattle.engine.specs.Engine.{finished};
-ghost use Rattle.explain.specs.Explained.{LinesAreGranted, LinesAreNamed};
+ghost use Rattle.explain.specs.Explained.{LinesAreNamed};
 ghost use Rattle.explain.specs.Lines.{ranks_shown};
-ghost use Rattle.audit_text.specs.Explanation.{explanation_text, grants_text, need_line_text, shown_text};
+ghost use Rattle.audit_text.specs.Explanation.{LinesMayBeSpelled, RecordsMayBeSpelled, explanation_text, grants_text, need_line_text, shown_text};
 
 use batched_text::named_grantees;
 use engine::Engine;
@@ -21,7 +20,7 @@ fn put_grants(
     engine: &Engine,
     names: &[RecordName],
 ) -> Result<(), AllocError>
-    ensures { OnOk result (WereGranted engine.now.log.statements (finished engine.now) names.now
+    ensures { OnOk result (RecordsMayBeSpelled engine.now.log (finished engine.now) names.now
         → text.new.items ≡ text.old.items ++ grants_text engine.now.log.statements engine.now.log.names names.now) }
 {
     let grantees = named_grantees(alloc, engine, names)?;
@@ -36,7 +35,7 @@ fn put_shown(
     engine: &Engine,
     shown: &Shown,
 ) -> Result<(), AllocError>
-    ensures { OnOk result (WereGranted engine.now.log.statements (finished engine.now) (ranks_shown shown.now)
+    ensures { OnOk result (RecordsMayBeSpelled engine.now.log (finished engine.now) (ranks_shown shown.now)
         → text.new.items ≡ text.old.items ++ shown_text engine.now.log.statements engine.now.log.names shown.now) }
 {
     match shown {
@@ -58,7 +57,7 @@ fn put_line(
     line: &Line,
 ) -> Result<(), AllocError>
     requires { line.now.need.table < length engine.now.log.names.tables }
-    ensures { OnOk result (WereGranted engine.now.log.statements (finished engine.now) (ranks_shown line.now.shown)
+    ensures { OnOk result (RecordsMayBeSpelled engine.now.log (finished engine.now) (ranks_shown line.now.shown)
         → text.new.items ≡ text.old.items ++ need_line_text engine.now.log.statements engine.now.log.names line.now) }
 {
     text.extend_from_slice(b"need ")?;
@@ -78,7 +77,7 @@ pub fn put_explanation(
     explanation: &Explanation,
 ) -> Result<(), AllocError>
     requires { LinesAreNamed (length engine.now.log.names.tables) explanation.now.lines.items }
-    ensures { OnOk result (LinesAreGranted engine.now.log.statements (finished engine.now) explanation.now.lines.items
+    ensures { OnOk result (LinesMayBeSpelled engine.now.log (finished engine.now) explanation.now.lines.items
         → text.new.items ≡ text.old.items
         ++ explanation_text engine.now.log.statements engine.now.log.names explanation.now.lines.items) }
 {

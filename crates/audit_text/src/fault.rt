@@ -5,7 +5,7 @@ ghost use Rattle.audit_text.specs.Faults.{audit_fault_of, audit_fault_text};
 ghost use Rattle.audit_text.specs.declared.fault.AuditFault.TheVariants.{NoMemory, Write};
 
 use line_io::{ReadFault, WriteFault};
-use std::alloc::{AllocError, AllocFailed};
+use std::alloc::AllocError;
 use std::fmt;
 use thiserror::Error;
 
@@ -22,27 +22,18 @@ pub enum AuditFault {
     NoSuchPlace,
 }
 
-impl AuditFault {
-    /// What it says to a reader.
-    fn text(self) -> &'static str
-        ensures { result.now ≡ audit_fault_text self }
-    {
-        match self {
-            AuditFault::NoMemory => "out of memory",
-            AuditFault::Read => "cannot read",
-            AuditFault::Write => "cannot write",
-            AuditFault::NoSuchPlace => "no such place",
-        }
-    }
-}
-
 impl fmt::Display for AuditFault {
     ghost use Rattle.std.specs.Prelude.{Some};
 
     ghost output = { λ fault. Some (audit_fault_text fault) };
 
     fn fmt<W: fmt::Write>(&self, f: &mut fmt::Formatter<W>) -> fmt::Result {
-        f.write_str(self.text())
+        f.write_str(match self {
+            AuditFault::NoMemory => "out of memory",
+            AuditFault::Read => "cannot read",
+            AuditFault::Write => "cannot write",
+            AuditFault::NoSuchPlace => "no such place",
+        })
     }
 }
 
@@ -50,14 +41,6 @@ impl From<AllocError> for AuditFault {
     ghost from_gives = { λ _ e. e ≡ NoMemory };
 
     fn from(_e: AllocError) -> AuditFault {
-        AuditFault::NoMemory
-    }
-}
-
-impl<T: Drop> From<AllocFailed<T>> for AuditFault {
-    ghost from_gives = { λ _ e. e ≡ NoMemory };
-
-    fn from(_e: AllocFailed<T>) -> AuditFault {
         AuditFault::NoMemory
     }
 }

@@ -1,6 +1,6 @@
 //! The grants in force at a place, as a digraph of Graphviz.
 
-ghost use Rattle.std.specs.Prelude.{◌≡◌, ◌++◌, [], OnOk, codes, if◌then◌else◌, nat_lt};
+ghost use Rattle.std.specs.Prelude.{◌≡◌, ◌++◌, [], OnOk, codes, if◌then◌else◌};
 ghost use Rattle.std.specs.Fmt.{decimal};
 ghost use Rattle.std.specs.List.{flat_map, list_any};
 ghost use Rattle.report.specs.Text.{table_name};
@@ -59,25 +59,7 @@ fn put_owner(
     text.extend_from_slice(b"\n")
 }
 
-/// Writes the line of a table if it was created below the place.
-fn put_table(
-    text: &mut Vec<u8>,
-    names: &Catalog,
-    place: Place,
-    table: usize,
-    creation: &Creation,
-) -> Result<(), AllocError>
-    ensures { OnOk result (text.new.items ≡ text.old.items
-        ++ (if nat_lt creation.now.place place then owner_text names.now.users names.now.tables (table, creation.now) else [])) }
-{
-    if creation.place < place {
-        put_owner(text, names, table, creation)
-    } else {
-        Ok(())
-    }
-}
-
-/// Writes the lines of the tables.
+/// Writes the lines of the tables that were created below the place.
 fn put_tables(
     text: &mut Vec<u8>,
     names: &Catalog,
@@ -88,7 +70,9 @@ fn put_tables(
         ++ flat_map (owner_text names.now.users names.now.tables) (tables_drawn place tables.now)) }
 {
     for (table, creation) in tables.iter().enumerate() {
-        put_table(text, names, place, table, creation)?;
+        if creation.place < place {
+            put_owner(text, names, table, creation)?;
+        }
     }
     Ok(())
 }
@@ -192,24 +176,7 @@ fn is_in_force_at(place: Place, entry: &Record) -> bool
     entry.grant.place < place && !has_fallen
 }
 
-/// Writes the line of a grant if it was in force at the place.
-fn put_grant(
-    text: &mut Vec<u8>,
-    names: &Catalog,
-    place: Place,
-    entry: &Record,
-) -> Result<(), AllocError>
-    ensures { OnOk result (text.new.items ≡ text.old.items
-        ++ (if is_in_force_at place entry.now then edge_text names.now.users names.now.tables place entry.now else [])) }
-{
-    if is_in_force_at(place, entry) {
-        put_edge(text, names, place, entry)
-    } else {
-        Ok(())
-    }
-}
-
-/// Writes the lines of the grants.
+/// Writes the lines of the grants that were in force at the place.
 fn put_grants(
     text: &mut Vec<u8>,
     names: &Catalog,
@@ -220,7 +187,9 @@ fn put_grants(
         ++ flat_map (edge_text names.now.users names.now.tables place) (drawn place records.now)) }
 {
     for entry in records {
-        put_grant(text, names, place, entry)?;
+        if is_in_force_at(place, entry) {
+            put_edge(text, names, place, entry)?;
+        }
     }
     Ok(())
 }
@@ -270,7 +239,7 @@ fn put_granted(
 /// their order, with its owner as a box, one for PUBLIC as a double circle if an edge leads to it, and then an edge for each grant that was
 /// made below the place and was in force there, in the order of their places. An edge leads from the grantor to the grantee, and its label
 /// is the place of the grant, its kind and its table, and `option` where it has that. What the statement of the place itself took is still
-/// there, dashed, with `taken` and the place. The names are those of the log that made the book; where one is missing nothing stands for
+/// there, dashed, with `taken` and the place. The names are those of the log that made the book; where one is missing there is nothing for
 /// it. After an error, which means out of memory, some of the digraph may be after the text.
 pub fn put_graph(
     text: &mut Vec<u8>,

@@ -19,10 +19,10 @@ mod putting;
 mod question;
 mod writing;
 
-pub use explaining::{explain_text, explain_text_seeded};
+pub use explaining::explain_text;
 pub use explanation::put_explanation;
 pub use fault::AuditFault;
 pub use graph::put_graph;
 pub use graph_laws::edges_are_grants_in_force;
-pub use picturing::{grants_text, grants_text_seeded};
+pub use picturing::grants_text;
 pub use question::Question;

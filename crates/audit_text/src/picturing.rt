@@ -9,7 +9,7 @@ ghost use Rattle.audit_text.specs.Picture.{EndsBefore, IsPicture, IsPictureOf, p
 use crate::fault::AuditFault;
 use crate::graph::put_graph;
 use crate::writing::write_text;
-use batched_text::run_quietly_to_seeded;
+use batched_text::run_quietly_to;
 use engine::Engine;
 use line_io::Counted;
 use model_base::{HashSeed, Place};
@@ -62,7 +62,8 @@ fn write_picture<W: Write>(
 
 /// Reads a log up to the line of a place, or to its end where none is named or it hasn't the place, and runs what it read; then it
 /// writes the grants in force before the place, or at the end where none is named, as a digraph of Graphviz, as `audit_text` spells
-/// it. Then the writer is flushed. The log's report isn't made. What comes after the place's line isn't taken, as in `explain_text`.
+/// it. Then the writer is flushed. The log's report isn't made. What comes after the place's line isn't taken, as in `explain_text`. Maps
+/// find their keys under `seed`.
 ///
 /// `NoSuchPlace` comes only where the log ends before the place, `NoMemory` where a growth was refused, `Read` where the reader failed,
 /// `Write` where the writer failed, or took no byte of a piece that wasn't empty. After `Write` a beginning of the picture is written, and
@@ -73,6 +74,7 @@ pub fn grants_text<T: Threads + Wait + Sync, R: Read, W: Write>(
     reader: &mut Counted<R>,
     writer: &mut Counted<W>,
     limit: Option<Place>,
+    seed: HashSeed,
 ) -> Result<(), AuditFault>
     // What was written is the picture of the grants before the place, by the log's beginning up to the place and with it.
     ensures done { OnOk result (IfSome (R.remaining reader.old.inner) (λ input. (text : List ℕ)
@@ -92,30 +94,6 @@ pub fn grants_text<T: Threads + Wait + Sync, R: Read, W: Write>(
     // Ok says that the writer was flushed once, and not written to since.
     ensures flushed { OnOk result ((writer.new.flushes ≡ raised writer.old.flushes) × (writer.new.is_flushed ≡ true)) }
 {
-    grants_text_seeded(rt, alloc, reader, writer, limit, HashSeed::fixed())
-}
-
-/// The same, by maps that find their keys under this seed.
-pub fn grants_text_seeded<T: Threads + Wait + Sync, R: Read, W: Write>(
-    rt: &T,
-    alloc: Global,
-    reader: &mut Counted<R>,
-    writer: &mut Counted<W>,
-    limit: Option<Place>,
-    seed: HashSeed,
-) -> Result<(), AuditFault>
-    ensures done { OnOk result (IfSome (R.remaining reader.old.inner) (λ input. (text : List ℕ)
-        × (IsPicture input limit text × Appends (W.contents writer.old.inner) (W.contents writer.new.inner) text))) }
-    ensures begun { IfSome (R.remaining reader.old.inner) (λ input. (W.contents writer.new.inner ≡ W.contents writer.old.inner)
-        ⊎ ((text : List ℕ) × (IsPicture input limit text
-        × AppendsFront (W.contents writer.old.inner) (W.contents writer.new.inner) text))) }
-    ensures none { result ≡ Err AuditFault.NoSuchPlace
-        → (writer.new ≡ writer.old) × IfSome (R.remaining reader.old.inner) (λ input. EndsBefore input limit) }
-    ensures read { result ≡ Err AuditFault.Read → reader.old.errors < 2 ^ 64 - 1 → reader.old.errors < reader.new.errors }
-    ensures write { result ≡ Err AuditFault.Write → writer.old.errors < 2 ^ 64 - 1 → writer.old.errors < writer.new.errors }
-    ensures whole { OnOk result ((reader.new.errors ≡ reader.old.errors) × (writer.new.errors ≡ writer.old.errors)) }
-    ensures flushed { OnOk result ((writer.new.flushes ≡ raised writer.old.flushes) × (writer.new.is_flushed ≡ true)) }
-{
-    let engine = run_quietly_to_seeded(rt, alloc, reader, limit, seed)?;
+    let engine = run_quietly_to(rt, alloc, reader, limit, seed)?;
     write_picture(alloc, writer, &engine, limit)
 }

@@ -3,8 +3,8 @@
 ghost use Rattle.std.specs.Prelude.{◌≡◌, ◌<◌, ◌≤◌, ◌++◌, ◌⊎◌, [], Err, IfErr, IfOk, OnOk, Some, codes, length};
 ghost use Rattle.engine.specs.Engine.{finished};
 ghost use Rattle.report.specs.Report.{place_text};
-ghost use Rattle.explain.specs.Explained.{IsExplainedBy, LinesAreGranted, LinesAreNamed, explained};
-ghost use Rattle.audit_text.specs.Explanation.{explanation_text};
+ghost use Rattle.explain.specs.Explained.{IsExplainedBy, LinesAreNamed, explained};
+ghost use Rattle.audit_text.specs.Explanation.{LinesMayBeSpelled, explanation_text};
 ghost use Rattle.audit_text.specs.Answer.{AnswersAccepted};
 
 use crate::explanation::put_explanation;
@@ -65,7 +65,7 @@ fn put_explained(
     requires kept { engine.now.dropped ≤ explanation.now.place }
     requires within { explanation.now.place < finished engine.now }
     requires named { LinesAreNamed (length engine.now.log.names.tables) explanation.now.lines.items }
-    requires granted { LinesAreGranted engine.now.log.statements (finished engine.now) explanation.now.lines.items }
+    requires granted { LinesMayBeSpelled engine.now.log (finished engine.now) explanation.now.lines.items }
     ensures { OnOk result (text.new.items ≡ text.old.items
         ++ place_text engine.now.log.statements engine.now.log.names explanation.now.place
         ++ explanation_text engine.now.log.statements engine.now.log.names explanation.now.lines.items) }

@@ -41,7 +41,7 @@ const FORGOTTEN: i32 = 9;
 /// There is too little room.
 const ROOM: i32 = 10;
 
-/// The option that says of how many of the last places `bohm_explain` can tell.
+/// The option that says how many of the last places `bohm_explain` can explain.
 const KEEP: u32 = 1;
 
 /// The version of the library: major * 10000 + minor * 100 + patch.
@@ -88,7 +88,7 @@ pub extern "C" fn bohm_version() -> u32
 pub extern "C" fn bohm_open(alloc: Global, handle: &mut Handle) -> i32
     // An open handle keeps its run.
     ensures opened { IfSome handle.old.run (λ run. (result ≡ OPENED) × (handle.new.run ≡ Some run)) }
-    // A closed one keeps a run that was given nothing, or stays closed where memory was refused.
+    // A closed one keeps a run that was given nothing, or stays closed where memory ran out.
     ensures done { handle.old.run ≡ None → result ≡ DONE → IfSome handle.new.run (λ run. IsFed run [] [] × (run.is_ended ≡ false)) }
     ensures open { handle.old.run ≡ None → result ≡ DONE → IsSome handle.new.run }
     ensures memory { handle.old.run ≡ None → (result ≡ DONE → ⊥) → (result ≡ MEMORY) × (handle.new.run ≡ None) }
@@ -275,7 +275,7 @@ pub extern "C" fn bohm_explain(
     // It is the explanation of the place of each text that begins with what was taken.
     ensures told { result ≡ DONE → IfSome handle.old.run (λ run. TextExplains run place (take made.new out.new)
         × (made.new ≤ length out.old)) }
-    // Where there is too little room, it is told how much is needed.
+    // Where there is too little room, it is given how much is needed.
     ensures room { result ≡ ROOM → IfSome handle.old.run (λ run. (length out.old < made.new)
         × ((text : List ℕ) × (TextExplains run place text × (length text ≡ made.new)))) }
     ensures none { IfSome handle.old.run (λ run. (result ≡ NO_PLACE) ↔ (run.order.reported ≤ place)) }

@@ -28,7 +28,7 @@ impl<T, A: Allocator> Parts<T, A> {
         Parts { ptr, alloc }
     }
 
-    /// Puts the box together.
+    /// Builds the box.
     pub fn into_box(self) -> Box<T, A>
         ensures { result.value ≡ self.value }
     {

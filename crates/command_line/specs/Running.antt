@@ -1,11 +1,12 @@
 -- How the work on a log ends.
-use Rattle.std.specs.Prelude.{◌≡◌, ◌≤◌, ◌⊎◌, ℕ, Err, IfSome, IsSome, List, None, Ok, Option, Result, Some}
+use Rattle.std.specs.Prelude.{◌≡◌, ◌≤◌, ◌⊎◌, ℕ, Err, IfSome, IsSome, List, None, Ok, Option, Result, Some, true}
 use Rattle.std.specs.Io.KnownBytes.{Appends}
 use Rattle.line_io.specs.Known.{AppendsFront}
 use Rattle.report.specs.Report.{IsReport}
 use Rattle.audit_text.specs.Answer.{HasNoPlace, IsExplanation}
 use Rattle.audit_text.specs.Picture.{EndsBefore, IsPicture}
 use Rattle.audit_text.specs.declared.question.Question.{Question}
+use Rattle.batched_text.specs.Settings.{are_within_limits}
 use Rattle.batched_text.specs.declared.settings.Settings.{Settings}
 use Rattle.command_line.specs.Words.{path_of}
 use Rattle.command_line.specs.declared.command_words.Command.{Command}
@@ -14,9 +15,45 @@ use Rattle.command_line.specs.declared.options.TheConstants.{MOST_AHEAD}
 use Rattle.command_line.specs.declared.options.Way.{Way}
 use Rattle.command_line.specs.declared.work.WorkFault.{WorkFault}
 
--- what is written of a log is its report
-abbrev pub TellsReports : (List ℕ → List ℕ → Type 0) → Type 0
-TellsReports tells = (input text : List ℕ) → tells input text → IsReport input text
+-- a work serves: it takes each order within its limits, says of a log only what answers the order, and that it has no such place only of a
+-- log that hasn't
+pub record Serves (O : Type 0) (IsOrder : O → Type 0) (answers : O → List ℕ → List ℕ → Type 0) (misses : O → List ℕ → Type 0)
+    (takes : O → Type 0) (tells : O → List ℕ → List ℕ → Type 0) (lacks : O → List ℕ → Type 0) : Type 0 where
+  pub taken : (order : O) → IsOrder order → takes order
+  pub answered : (order : O) (input text : List ℕ) → tells order input text → answers order input text
+  pub missed : (order : O) (input : List ℕ) → lacks order input → misses order input
+
+-- which works serve, by what they take, say and lack
+abbrev pub Serving : Type 0 → Type 1
+Serving O = (O → Type 0) → (O → List ℕ → List ℕ → Type 0) → (O → List ℕ → Type 0) → Type 0
+
+-- a run of a log serves by its report, and lacks no place
+abbrev pub ServesRuns : (O : Type 0) → (O → Type 0) → Serving O
+ServesRuns O IsOrder takes tells lacks = Serves O IsOrder (λ _. IsReport) (λ _ _. ⊥) takes tells lacks
+
+-- the run in order, by any number of threads within the limits that read lines ahead
+abbrev pub RunsInOrder : Serving ℕ
+RunsInOrder takes tells lacks = ServesRuns ℕ (λ threads. threads ≤ MOST_AHEAD) takes tells lacks
+
+-- the run in batches, by any settings within their limits
+abbrev pub RunsInBatches : Serving Settings
+RunsInBatches takes tells lacks = ServesRuns Settings (λ settings. are_within_limits settings ≡ true) takes tells lacks
+
+-- the slow run
+abbrev pub RunsSlowly : Serving (Unit {0})
+RunsSlowly takes tells lacks = ServesRuns (Unit {0}) (λ _. Unit {0}) takes tells lacks
+
+-- any question is served by an explanation of its place
+abbrev pub ExplainsPlaces : Serving Question
+ExplainsPlaces takes tells lacks =
+    Serves Question (λ _. Unit {0}) (λ question input text. IsExplanation input question text)
+    (λ question input. HasNoPlace input question.place) takes tells lacks
+
+-- and any limit by a picture of the grants before it
+abbrev pub PicturesGrants : Serving (Option ℕ)
+PicturesGrants takes tells lacks =
+    Serves (Option ℕ) (λ _. Unit {0}) (λ limit input text. IsPicture input limit text)
+    (λ limit input. EndsBefore input limit) takes tells lacks
 
 -- what was written is what is to be written of what was read, where the bytes of reader and writer are known
 abbrev pub HasTold : (List ℕ → List ℕ → Type 0) → Option (List ℕ) → Option (List ℕ) → Option (List ℕ) → Type 0

@@ -1,13 +1,8 @@
 //! Does what a command asks for with its log, and says how that ended.
 
-ghost use Rattle.std.specs.Prelude.{◌≡◌, ◌≤◌, ◌<◌, ◌-◌, ◌^◌, ℕ, Err, IfNone, IfSome, IsSome, List, OnOk, Option, true};
+ghost use Rattle.std.specs.Prelude.{◌≡◌, ◌≤◌, ◌<◌, ◌-◌, ◌^◌, Err, IfNone, IfSome, IsSome, OnOk, true};
 ghost use Rattle.line_io.specs.Known.{raised};
-ghost use Rattle.audit_text.specs.Answer.{HasNoPlace, IsExplanation};
-ghost use Rattle.audit_text.specs.Picture.{EndsBefore, IsPicture};
-ghost use Rattle.audit_text.specs.declared.question.Question.{Question};
-ghost use Rattle.batched_text.specs.Settings.{are_within_limits};
-ghost use Rattle.batched_text.specs.declared.settings.Settings.{Settings};
-ghost use Rattle.command_line.specs.Running.{AnswersCommand, DoesCommand, EndsWork, HasTold, LacksPlace, TellsReports, TextHasBegun, path_in};
+ghost use Rattle.command_line.specs.Running.{AnswersCommand, DoesCommand, EndsWork, ExplainsPlaces, HasTold, LacksPlace, PicturesGrants, RunsInBatches, RunsInOrder, RunsSlowly, TextHasBegun, path_in};
 ghost use Rattle.command_line.specs.Words.{IsWithinLimits};
 
 use crate::command_words::{Command, ProgramFault};
@@ -65,67 +60,49 @@ fn ahead_by<R: Threads>(rt: &R, told: Option<u64>) -> u64
     }
 }
 
-/// Does the work that a command asks for on a log.
-fn work_on<
+/// The work that a command asks for on a log.
+impl<'a, P, B, S, E, G> Job<Command<'a>> for Works<P, B, S, E, G>
+where
     P: Job<u64>,
     B: Job<Settings>,
     S: Job<()>,
     E: Job<Question>,
     G: Job<Option<Place>>,
-    T: Threads + Wait + Sync,
-    R: Read,
-    W: Write,
->(
-    rt: &T,
-    alloc: Global,
-    works: &Works<P, B, S, E, G>,
-    command: Command<'_>,
-    log: &mut Counted<R>,
-    told: &mut Counted<W>,
-) -> Result<(), WorkFault>
-    requires within { IsWithinLimits command }
-    requires in_order { (threads : ℕ) → threads ≤ MOST_AHEAD → P.takes works.now.in_order threads }
-    requires batched { (settings : Settings) → are_within_limits settings ≡ true → B.takes works.now.batched settings }
-    requires slow { S.takes works.now.slow tt }
-    requires explained { (question : Question) → E.takes works.now.explained question }
-    requires pictured { (limit : Option ℕ) → G.takes works.now.pictured limit }
-    requires in_order_reports { (threads : ℕ) → TellsReports (P.tells works.now.in_order threads) }
-    requires batched_reports { (settings : Settings) → TellsReports (B.tells works.now.batched settings) }
-    requires slow_reports { TellsReports (S.tells works.now.slow tt) }
-    requires explains { (question : Question) (input text : List ℕ)
-        → E.tells works.now.explained question input text → IsExplanation input question text }
-    requires pictures { (limit : Option ℕ) (input text : List ℕ)
-        → G.tells works.now.pictured limit input text → IsPicture input limit text }
-    requires in_order_lacks { (threads : ℕ) (input : List ℕ) → P.lacks works.now.in_order threads input → ⊥ }
-    requires batched_lacks { (settings : Settings) (input : List ℕ) → B.lacks works.now.batched settings input → ⊥ }
-    requires slow_lacks { (input : List ℕ) → S.lacks works.now.slow tt input → ⊥ }
-    requires explained_lacks { (question : Question) (input : List ℕ)
-        → E.lacks works.now.explained question input → HasNoPlace input question.place }
-    requires pictured_lacks { (limit : Option ℕ) (input : List ℕ) → G.lacks works.now.pictured limit input → EndsBefore input limit }
-    ensures ends { EndsWork (P.answers works.now.in_order) (B.answers works.now.batched) (S.answers works.now.slow tt)
-        (E.answers works.now.explained) (G.answers works.now.pictured) command.entry result }
-    ensures done { OnOk result (HasTold (AnswersCommand command.entry) (R.remaining log.old.inner)
-        (W.contents told.old.inner) (W.contents told.new.inner)) }
-    ensures begun { TextHasBegun (AnswersCommand command.entry) (R.remaining log.old.inner)
-        (W.contents told.old.inner) (W.contents told.new.inner) }
-    ensures none { result ≡ Err WorkFault.NoSuchPlace
-        → (told.new ≡ told.old) × IfSome (R.remaining log.old.inner) (LacksPlace command.entry) }
-    ensures read { result ≡ Err WorkFault.Read → log.old.errors < 2 ^ 64 - 1 → log.old.errors < log.new.errors }
-    ensures write { result ≡ Err WorkFault.Write → told.old.errors < 2 ^ 64 - 1 → told.old.errors < told.new.errors }
-    ensures whole { OnOk result ((log.new.errors ≡ log.old.errors) × (told.new.errors ≡ told.old.errors)) }
-    ensures flushed { OnOk result ((told.new.flushes ≡ raised told.old.flushes) × (told.new.is_flushed ≡ true)) }
 {
-    match command {
-        Command::Run(_, Way::InOrder(ahead)) => {
-            let threads = ahead_by(rt, ahead);
-            works.in_order.work(rt, alloc, threads, log, told)
+    ghost takes = { λ works command. IsWithinLimits command
+        × RunsInOrder (P.takes works.in_order) (P.tells works.in_order) (P.lacks works.in_order)
+        × RunsInBatches (B.takes works.batched) (B.tells works.batched) (B.lacks works.batched)
+        × RunsSlowly (S.takes works.slow) (S.tells works.slow) (S.lacks works.slow)
+        × ExplainsPlaces (E.takes works.explained) (E.tells works.explained) (E.lacks works.explained)
+        × PicturesGrants (G.takes works.pictured) (G.tells works.pictured) (G.lacks works.pictured) };
+
+    ghost answers = { λ works command. EndsWork (P.answers works.in_order) (B.answers works.batched) (S.answers works.slow tt)
+        (E.answers works.explained) (G.answers works.pictured) command };
+
+    ghost tells = { λ _ command. AnswersCommand command };
+
+    ghost lacks = { λ _ command. LacksPlace command };
+
+    fn work<T: Threads + Wait + Sync, R: Read, W: Write>(
+        &self,
+        rt: &T,
+        alloc: Global,
+        order: Command<'a>,
+        log: &mut Counted<R>,
+        told: &mut Counted<W>,
+    ) -> Result<(), WorkFault> {
+        match order {
+            Command::Run(_, Way::InOrder(ahead)) => {
+                let threads = ahead_by(rt, ahead);
+                self.in_order.work(rt, alloc, threads, log, told)
+            }
+            Command::Run(_, Way::InBatches(settings)) => {
+                self.batched.work(rt, alloc, settings, log, told)
+            }
+            Command::Serial(_) => self.slow.work(rt, alloc, (), log, told),
+            Command::Explain(_, question) => self.explained.work(rt, alloc, question, log, told),
+            Command::Grants(_, limit) => self.pictured.work(rt, alloc, limit, log, told),
         }
-        Command::Run(_, Way::InBatches(settings)) => {
-            works.batched.work(rt, alloc, settings, log, told)
-        }
-        Command::Serial(_) => works.slow.work(rt, alloc, (), log, told),
-        Command::Explain(_, question) => works.explained.work(rt, alloc, question, log, told),
-        Command::Grants(_, limit) => works.pictured.work(rt, alloc, limit, log, told),
     }
 }
 
@@ -164,24 +141,11 @@ pub fn do_command<
     told: &mut Counted<W>,
 ) -> Result<(), ProgramFault>
     requires within { IsWithinLimits command }
-    requires in_order { (threads : ℕ) → threads ≤ MOST_AHEAD → P.takes works.now.in_order threads }
-    requires batched { (settings : Settings) → are_within_limits settings ≡ true → B.takes works.now.batched settings }
-    requires slow { S.takes works.now.slow tt }
-    requires explained { (question : Question) → E.takes works.now.explained question }
-    requires pictured { (limit : Option ℕ) → G.takes works.now.pictured limit }
-    requires in_order_reports { (threads : ℕ) → TellsReports (P.tells works.now.in_order threads) }
-    requires batched_reports { (settings : Settings) → TellsReports (B.tells works.now.batched settings) }
-    requires slow_reports { TellsReports (S.tells works.now.slow tt) }
-    requires explains { (question : Question) (input text : List ℕ)
-        → E.tells works.now.explained question input text → IsExplanation input question text }
-    requires pictures { (limit : Option ℕ) (input text : List ℕ)
-        → G.tells works.now.pictured limit input text → IsPicture input limit text }
-    requires in_order_lacks { (threads : ℕ) (input : List ℕ) → P.lacks works.now.in_order threads input → ⊥ }
-    requires batched_lacks { (settings : Settings) (input : List ℕ) → B.lacks works.now.batched settings input → ⊥ }
-    requires slow_lacks { (input : List ℕ) → S.lacks works.now.slow tt input → ⊥ }
-    requires explained_lacks { (question : Question) (input : List ℕ)
-        → E.lacks works.now.explained question input → HasNoPlace input question.place }
-    requires pictured_lacks { (limit : Option ℕ) (input : List ℕ) → G.lacks works.now.pictured limit input → EndsBefore input limit }
+    requires in_order { RunsInOrder (P.takes works.now.in_order) (P.tells works.now.in_order) (P.lacks works.now.in_order) }
+    requires batched { RunsInBatches (B.takes works.now.batched) (B.tells works.now.batched) (B.lacks works.now.batched) }
+    requires slow { RunsSlowly (S.takes works.now.slow) (S.tells works.now.slow) (S.lacks works.now.slow) }
+    requires explained { ExplainsPlaces (E.takes works.now.explained) (E.tells works.now.explained) (E.lacks works.now.explained) }
+    requires pictured { PicturesGrants (G.takes works.now.pictured) (G.tells works.now.pictured) (G.lacks works.now.pictured) }
     ensures does { DoesCommand (P.answers works.now.in_order) (B.answers works.now.batched) (S.answers works.now.slow tt)
         (E.answers works.now.explained) (G.answers works.now.pictured) command.entry result }
 
@@ -204,7 +168,7 @@ pub fn do_command<
     let Some(mut log) = open_log(sources, &command) else {
         return Err(ProgramFault::Open);
     };
-    match work_on(rt, alloc, works, command, &mut log, told) {
+    match works.work(rt, alloc, command, &mut log, told) {
         Ok(()) => Ok(()),
         Err(fault) => Err(ProgramFault::Work(fault)),
     }

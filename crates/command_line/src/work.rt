@@ -13,9 +13,9 @@ ghost use Rattle.batched_text.specs.Faults.{of_text};
 ghost use Rattle.command_line.specs.Works.{of_audit, of_run};
 ghost use Rattle.command_line.specs.declared.work.WorkFault.{WorkFault};
 
-use audit_text::{AuditFault, Question, explain_text_seeded, grants_text_seeded};
-use batched_text::{ReadingAhead, Settings, report_in_order_seeded, report_text_seeded};
-use bohm_base::{EngineFault, serial_text_seeded};
+use audit_text::{AuditFault, Question, explain_text, grants_text};
+use batched_text::{ReadingAhead, Settings, report_in_order, report_text};
+use bohm_base::{EngineFault, serial_text};
 use line_io::Counted;
 use model_base::{HashSeed, Place};
 use std::alloc::Global;
@@ -50,8 +50,8 @@ pub trait Job<O: Copy> {
     ghost lacks: { Self → O → List ℕ → Type 0 };
 
     /// Reads the log, as far as it has to, and writes what it says of it. After a fault a beginning of that was written, or nothing; `Read`
-    /// and `Write` come only where the log's reader or the writer failed, `NoSuchPlace` only where the log has no such place, and then nothing
-    /// is written. Ok comes only where neither failed and the writer was flushed, once, and not written to since.
+    /// and `Write` come only where the log's reader or the writer failed, `NoSuchPlace` only where the log has no such place, and then
+    /// nothing is written. Ok comes only where neither failed and the writer was flushed, once, and not written to since.
     fn work<T: Threads + Wait + Sync, R: Read, W: Write>(
         &self,
         rt: &T,
@@ -138,7 +138,7 @@ impl Job<u64> for InOrder {
         told: &mut Counted<W>,
     ) -> Result<(), WorkFault> {
         let ahead = ReadingAhead::by(order as usize);
-        match report_in_order_seeded(rt, alloc, log, told, ahead, self.seed) {
+        match report_in_order(rt, alloc, log, told, ahead, self.seed) {
             Ok(()) => Ok(()),
             Err(fault) => Err(run_fault(fault)),
         }
@@ -169,7 +169,7 @@ impl Job<()> for Slow {
         log: &mut Counted<R>,
         told: &mut Counted<W>,
     ) -> Result<(), WorkFault> {
-        match serial_text_seeded(alloc, log, told, self.seed) {
+        match serial_text(alloc, log, told, self.seed) {
             Ok(()) => Ok(()),
             Err(fault) => Err(run_fault(fault)),
         }
@@ -201,7 +201,7 @@ impl Job<Settings> for Batched {
         log: &mut Counted<R>,
         told: &mut Counted<W>,
     ) -> Result<(), WorkFault> {
-        match report_text_seeded(rt, alloc, log, told, &order, self.seed) {
+        match report_text(rt, alloc, log, told, &order, self.seed) {
             Ok(()) => Ok(()),
             Err(fault) => Err(run_fault(batched_fault(fault))),
         }
@@ -232,7 +232,7 @@ impl Job<Question> for Explained {
         log: &mut Counted<R>,
         told: &mut Counted<W>,
     ) -> Result<(), WorkFault> {
-        match explain_text_seeded(rt, alloc, log, told, order, self.seed) {
+        match explain_text(rt, alloc, log, told, order, self.seed) {
             Ok(()) => Ok(()),
             Err(fault) => Err(audit_fault(fault)),
         }
@@ -263,7 +263,7 @@ impl Job<Option<Place>> for Pictured {
         log: &mut Counted<R>,
         told: &mut Counted<W>,
     ) -> Result<(), WorkFault> {
-        match grants_text_seeded(rt, alloc, log, told, order, self.seed) {
+        match grants_text(rt, alloc, log, told, order, self.seed) {
             Ok(()) => Ok(()),
             Err(fault) => Err(audit_fault(fault)),
         }

@@ -1,6 +1,10 @@
 -- How far a log is that is run in order.
-use Rattle.std.specs.Prelude.{◌≡◌, ◌≤◌, ◌+◌, ◌-◌, ◌++◌, ◌∷◌, [], ℕ, Bool, List, length}
-use Rattle.report.specs.Report.{ParsedLine}
+use Rattle.std.specs.Prelude.{◌≡◌, ◌≤◌, ◌+◌, ◌-◌, ◌++◌, ◌∷◌, [], ℕ, Bool, List, Some, length}
+use Rattle.sequencer.specs.Log.{Accepted}
+use Rattle.explain.specs.declared.line.Line.{Line}
+use Rattle.explain.specs.Explained.{explained}
+use Rattle.audit_text.specs.Explanation.{explanation_text}
+use Rattle.report.specs.Report.{ParsedLine, place_text}
 use Rattle.bohm_base.specs.Collecting.{ReadsAs, line_outcome, with_reading}
 use Rattle.bohm_base.specs.declared.collecting.LineOutcome.{LineOutcome}
 use Rattle.batched_text.specs.Places.{places_in}
@@ -27,9 +31,13 @@ pub record TakesLine (reading : ParsedLine) (old new : Progress) : Type 0 where
   pub waiting : new.waiting ≡ old.waiting ++ line_outcome old.run.log.names reading ∷ []
   pub reported : new.reported ≡ old.reported
 
--- the line, the first one or a later one, is read in the version of the log, was taken, and became this
-pub record Becomes (first : Bool) (line : List ℕ) (old new : Run) (became : LineOutcome) : Type 0 where
-  pub reading : ParsedLine
-  pub reads : ReadsAs first old.log.names.version line reading
-  pub outcome : became ≡ line_outcome old.log.names reading
-  pub run : new ≡ record old { log = with_reading old.log reading }
+-- these bytes of the first line or a later one were read in the version of the log, and the line was taken
+abbrev pub ReadsAndTakes : Bool → List ℕ → Progress → Progress → Type 0
+ReadsAndTakes first known old new =
+    (reading : ParsedLine) × (ReadsAs first old.run.log.names.version known reading × TakesLine reading old new)
+
+-- the text after these bytes goes on with the report's line for the place of the log, and the lines that explain it
+abbrev pub AppendsExplained : Accepted → ℕ → List ℕ → List ℕ → Type 0
+AppendsExplained log place before after =
+    (lines : List Line) × (explained log.statements place ≡ Some lines)
+    × (after ≡ before ++ place_text log.statements log.names place ++ explanation_text log.statements log.names lines)

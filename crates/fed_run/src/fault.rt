@@ -19,26 +19,17 @@ pub enum FeedFault {
     Ended,
 }
 
-impl FeedFault {
-    /// What it says to a reader.
-    fn text(self) -> &'static str
-        ensures { result.now ≡ feed_fault_text self }
-    {
-        match self {
-            FeedFault::NoMemory => "out of memory",
-            FeedFault::Full => "too many lines",
-            FeedFault::Ended => "the log has ended",
-        }
-    }
-}
-
 impl fmt::Display for FeedFault {
     ghost use Rattle.std.specs.Prelude.{Some};
 
     ghost output = { λ fault. Some (feed_fault_text fault) };
 
     fn fmt<W: fmt::Write>(&self, f: &mut fmt::Formatter<W>) -> fmt::Result {
-        f.write_str(self.text())
+        f.write_str(match self {
+            FeedFault::NoMemory => "out of memory",
+            FeedFault::Full => "too many lines",
+            FeedFault::Ended => "the log has ended",
+        })
     }
 }
 

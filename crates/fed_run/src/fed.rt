@@ -2,9 +2,8 @@
 
 ghost use Rattle.std.specs.Prelude.{◌≡◌, ◌≤◌, ◌<◌, ◌+◌, ◌++◌, ◌∷◌, ◌^◌, ◌↔◌, ◌==◌, ℕ, [], List, Err, IfErr, IfOk, Ok, OnErr, OnOk, false, true, drop, length, take};
 ghost use Rattle.line_io.specs.declared.limits.TheConstants.{KEPT_BYTES};
-ghost use Rattle.report.specs.Report.{IsReport, ParsedLine};
+ghost use Rattle.report.specs.Report.{IsReport};
 ghost use Rattle.sequencer.specs.Whole.{IsWhole};
-ghost use Rattle.bohm_base.specs.Collecting.{ReadsAs};
 
 use crate::fault::FeedFault;
 use crate::in_order::InOrder;
@@ -25,8 +24,8 @@ pub struct Step {
 }
 
 /// The run of a text that its caller feeds: bytes of the log go in and bytes of the report come out, in whatever pieces the caller has.
-/// It keeps the rows and the grants before the next place, the report's lines for 64 lines at most, and the first `KEPT_BYTES` of a line; and
-/// statements and outcomes of the last places.
+/// It keeps the rows and the grants before the next place, the report's lines for 64 lines at most, and the first `KEPT_BYTES` of a line;
+/// and statements and outcomes of the last places.
 #[derive(Drop)]
 pub struct FedRun {
     order: InOrder,
@@ -44,7 +43,7 @@ pub struct FedRun {
 }
 
 impl FedRun {
-    ghost use Rattle.fed_run.specs.Progress.{TakesLine};
+    ghost use Rattle.fed_run.specs.Progress.{ReadsAndTakes};
     ghost use Rattle.fed_run.specs.Stands.{TextExplains, Feeds, Gives, IsUnfed, IsGivenOut, IsFed, TakesBytes, next_line, unsent};
 
     /// Before the first byte. It doesn't allocate.
@@ -62,8 +61,8 @@ impl FedRun {
         }
     }
 
-    /// Keeps statements and outcomes of so many of the last places, for `explain`. It returns `false`, and changes nothing, once a byte was
-    /// taken or the end of the text was given.
+    /// Keeps statements and outcomes of this many of the last places, for `explain`. It returns `false`, and changes nothing, once a byte
+    /// was taken or the end of the text was given.
     pub fn set_keep(&mut self, keep: u64) -> bool
         ensures fresh { (result ≡ true) ↔ IsUnfed self.old }
         ensures set { result ≡ true → self.new ≡ record self.old { order = record self.old.order { keep = keep } } }
@@ -80,9 +79,9 @@ impl FedRun {
         true
     }
 
-    /// Why the statement of a place was admitted or denied, as `audit_text::explain_text` writes it, appended to an empty text. `NoSuchPlace`
-    /// is returned exactly where no such place was reported yet. At least the last places can be explained, as many as are to be kept: of
-    /// others `Forgotten` may be returned. `NoMemory` means out of memory; some of it may be in the text then.
+    /// Why the statement of a place was admitted or denied, as `audit_text::explain_text` writes it, appended to an empty text.
+    /// `NoSuchPlace` is returned exactly where no such place was reported yet. At least the last places can be explained, as many as are to
+    /// be kept: of others `Forgotten` may be returned. `NoMemory` means out of memory; some of it may be in the text then.
     pub fn explain(
         &self,
         alloc: Global,
@@ -228,9 +227,7 @@ impl FedRun {
     ) -> Result<(), FeedFault>
         requires short { length end.now ≤ KEPT_BYTES }
         ensures ok { OnOk result ((line : List ℕ) → self.old.begun.items ≡ take KEPT_BYTES line
-            → (reading : ParsedLine)
-            × (ReadsAs (next_line self.old == 1) self.old.order.run.log.names.version (take KEPT_BYTES (line ++ end.now)) reading
-            × TakesLine reading self.old.order self.new.order)) }
+            → ReadsAndTakes (next_line self.old == 1) (take KEPT_BYTES (line ++ end.now)) self.old.order self.new.order) }
         ensures whole { OnOk result (IsWhole self.new.order.run.log) }
         ensures begun { OnOk result (self.new.begun.items ≡ []) }
         ensures order { OnErr result (self.new.order ≡ self.old.order) }
@@ -292,7 +289,8 @@ impl FedRun {
         }
     }
 
-    /// Takes lines of the input from the bytes that were used on, until enough wait to be run at once or no byte is left, and counts the bytes.
+    /// Takes lines of the input from the bytes that were used on, until enough wait to be run at once or no byte is left, and counts the
+    /// bytes.
     fn take_lines<'a>(
         &mut self,
         alloc: Global,
@@ -350,7 +348,8 @@ impl FedRun {
     ///
     /// However a text is cut into calls, and however little room there is, what is given is a beginning of its report. On `NoMemory` a
     /// growth was refused: `Step` has what was taken and given, which is whole lines, nothing is lost, and the call may be made again with
-    /// the rest. `Full` is returned where there are as many lines as can be counted. After `finish` nothing is done, and `Ended` is returned.
+    /// the rest. `Full` is returned where there are as many lines as can be counted. After `finish` nothing is done, and `Ended` is
+    /// returned.
     pub fn step(
         &mut self,
         alloc: Global,
@@ -410,9 +409,9 @@ impl FedRun {
         Ok(())
     }
 
-    /// Ends the text, so that bytes after its last LF are a line too, and gives bytes of the report into `out`. Where it fills less than `out`,
-    /// that was all, and the report is whole; else call it again. It returns how many bytes it gave, and the same faults as `step` but
-    /// `Ended`.
+    /// Ends the text, so that bytes after its last LF are a line too, and gives bytes of the report into `out`. Where it fills less than
+    /// `out`, that was all, and the report is whole; else call it again. It returns how many bytes it gave, and the same faults as `step`
+    /// but `Ended`.
     pub fn finish(&mut self, alloc: Global, out: &mut [u8]) -> (usize, Result<(), FeedFault>)
         ensures made { result.0 ≤ length out.old }
         ensures stands { (text written : List ℕ) → IsFed self.old text written → IsFed self.new text (written ++ take result.0 out.new) }

@@ -4,19 +4,13 @@
 //! order of the log the versions that a transaction reads are the newest.
 
 ghost use Rattle.std.specs.Prelude.{◌≡◌, ◌≤◌, ◌<◌, ◌+◌, ◌-◌, ◌^◌, ◌∷◌, ◌++◌, ◌↔◌, [], Err, IfOk, List, false, true, OnErr, OnOk, length};
-ghost use Rattle.explain.specs.declared.line.Line.{Line as Shows};
-ghost use Rattle.report.specs.Report.{ParsedLine, place_text};
-ghost use Rattle.bohm_base.specs.Collecting.{ReadsAs};
-ghost use Rattle.explain.specs.Explained.{explained};
-ghost use Rattle.audit_text.specs.Explanation.{explanation_text};
 ghost use Rattle.batched_text.specs.Batching.{lines_text};
 ghost use Rattle.batched_text.specs.Places.{places_in};
 ghost use Rattle.sequencer.specs.Log.{empty_log};
 ghost use Rattle.sequencer.specs.Whole.{IsWhole};
 
-use crate::taken_lines::take_line;
 use audit_text::put_explanation;
-use batched_text::{put_lines, put_place};
+use batched_text::{put_lines, put_place, take_text};
 use bohm_base::LineOutcome;
 use engine::Engine;
 use explain::{ExplainFault, explain, explanations_name_earlier_grants};
@@ -25,7 +19,7 @@ use model_base::Place;
 use std::alloc::{AllocError, Global};
 use std::marker::Model;
 
-/// This many lines are run at once, if they are at hand.
+/// This many lines are run at once, if they are available.
 const MOST_WAITING: usize = 64;
 
 /// After this many places the versions of rows are dropped that no later place can read.
@@ -60,7 +54,7 @@ impl Model for InOrder {
 }
 
 impl InOrder {
-    ghost use Rattle.fed_run.specs.Progress.{TakesLine};
+    ghost use Rattle.fed_run.specs.Progress.{AppendsExplained, ReadsAndTakes};
 
     /// Before the first line. It doesn't allocate.
     pub(crate) fn new(alloc: Global) -> Self
@@ -120,18 +114,21 @@ impl InOrder {
         raw: &mut LineBuffers<'a>,
         is_first: bool,
     ) -> Result<(), AllocError>
-        ensures ok { OnOk result ((reading : ParsedLine)
-            × (ReadsAs is_first self.old.run.log.names.version line.now reading × TakesLine reading self.old self.new)) }
+        ensures ok { OnOk result (ReadsAndTakes is_first line.now self.old self.new) }
         ensures whole { IsWhole self.new.run.log }
         ensures err { OnErr result (self.new ≡ self.old) }
         ensures keep { self.new.keep ≡ self.old.keep }
     {
         let _before = self.engine.log().dropped();
         self.waiting.reserve(1)?;
-        let taken = take_line(&mut self.engine, line, raw, is_first);
-        let _after = self.engine.log().dropped();
-        self.waiting.push_reserved(taken?);
-        Ok(())
+        match take_text(&mut self.engine, line, is_first, raw) {
+            Ok(line) => {
+                let _after = self.engine.log().dropped();
+                self.waiting.push_reserved(line);
+                Ok(())
+            }
+            Err(_fault) => Err(AllocError),
+        }
     }
 
     /// Takes a line, as `take`, with room of its own: it may lie elsewhere than the lines after it, so that they can't share one room.
@@ -141,8 +138,7 @@ impl InOrder {
         line: &[u8],
         is_first: bool,
     ) -> Result<(), AllocError>
-        ensures ok { OnOk result ((reading : ParsedLine)
-            × (ReadsAs is_first self.old.run.log.names.version line.now reading × TakesLine reading self.old self.new)) }
+        ensures ok { OnOk result (ReadsAndTakes is_first line.now self.old self.new) }
         ensures whole { IsWhole self.new.run.log }
         ensures err { OnErr result (self.new ≡ self.old) }
         ensures keep { self.new.keep ≡ self.old.keep }
@@ -223,9 +219,7 @@ impl InOrder {
         place: Place,
         text: &mut Vec<u8>,
     ) -> Result<(), ExplainFault>
-        ensures told { OnOk result ((lines : List Shows) × (explained self.now.run.log.statements place ≡ Some lines)
-            × (text.new.items ≡ text.old.items ++ place_text self.now.run.log.statements self.now.run.log.names place
-            ++ explanation_text self.now.run.log.statements self.now.run.log.names lines)) }
+        ensures told { OnOk result (AppendsExplained self.now.run.log place text.old.items text.new.items) }
         ensures none { (result ≡ Err ExplainFault.NoSuchPlace) ↔ (self.now.reported ≤ place) }
         ensures forgotten { result ≡ Err ExplainFault.Forgotten → place + self.now.keep < self.now.reported }
         ensures finished { result ≡ Err ExplainFault.NotFinished → ⊥ }

@@ -7,7 +7,6 @@ mod fed;
 mod in_order;
 mod keeping;
 mod laws;
-mod taken_lines;
 
 pub use fault::FeedFault;
 pub use fed::{FedRun, Step};

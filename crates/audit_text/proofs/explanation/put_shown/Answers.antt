@@ -14,7 +14,7 @@ returns-in_ok-put_cause-in-Taken c =
     let chain : List ℕ = grants_text run.log.statements run.log.names c.as_slice-in-Taken.result.now in
     rw (c.in-Taken.is, sym c.as_slice-in-Taken.ensures)
     (on_ok_weaker c.put_grants-in-Taken.result
-    (λ told were.
-    told were ∙ ap (λ (text : List ℕ). text ++ chain) c.in_ok-put_cause-in-Taken.ensures
+    (λ told may.
+    told may ∙ ap (λ (text : List ℕ). text ++ chain) c.in_ok-put_cause-in-Taken.ensures
     ∙ append_assoc c.args.text.now.items (cause_text (Taken c.in-Taken.lost)) chain)
     c.put_grants-in-Taken.ensures)

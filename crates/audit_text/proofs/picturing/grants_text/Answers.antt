@@ -1,6 +1,6 @@
 use Rattle.std.proofs.lemmas.Result.{on_ok_weaker}
 use Rattle.audit_text.proofs.Pictured.{begun, ends_before, pictured}
-use Rattle.audit_text.proofs.picturing.grants_text_seeded.Goals as goal
+use Rattle.audit_text.proofs.picturing.grants_text.Goals as goal
 
 pub returns-clause-done : goal.returns-clause-done
 returns-clause-done g c = pictured _ _ _ _ _ c.args.limit c.in_ok-engine.ensures.log c.write_picture.ensures.done

@@ -1,6 +1,6 @@
 use Rattle.std.proofs.lemmas.Result.{on_ok_weaker}
 use Rattle.audit_text.proofs.Explained.{begun, explained, no_place}
-use Rattle.audit_text.proofs.explaining.explain_text_seeded.Goals as goal
+use Rattle.audit_text.proofs.explaining.explain_text.Goals as goal
 
 pub returns-clause-done : goal.returns-clause-done
 returns-clause-done g c = explained _ _ _ _ _ c.args.question c.in_ok-engine.ensures.whole c.in_ok-engine.ensures.log c.write_answer.ensures.done
