@@ -3,7 +3,6 @@
 use crate::parsing::Runs;
 use crate::reports::is_reported;
 use std::alloc::{AllocError, Global};
-use std::rt::Files;
 use std::sync::Wait;
 use std::thread::Threads;
 use trials_base::TrialFault;
@@ -22,15 +21,13 @@ fn changed_log(alloc: Global, log: &[u8], number: usize) -> Result<Vec<u8>, Allo
 }
 
 /// For how many of the changes of a log, of which one of this many is tried, all runs write one report with as many lines.
-pub fn changed_logs<R: Files + Threads + Wait + Sync>(
+pub fn changed_logs<R: Threads + Wait + Sync>(
     rt: &R,
     alloc: Global,
     every: usize,
     case: &Runs<'_>,
 ) -> Result<String, TrialFault> {
-    let log = case.log.bytes(rt, alloc)?;
-    let log = log.as_slice();
-    let runs = case.runs.as_slice();
+    let (log, runs) = (case.bytes.as_slice(), case.runs.as_slice());
     let mut tried: usize = 0;
     let mut right: usize = 0;
     for number in 0..log.len().saturating_mul(OTHERS) {

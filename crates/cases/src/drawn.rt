@@ -64,7 +64,7 @@ const OTHER_WORDS: &str =
 /// What is counted in the reports: the words of lines.
 const ENDINGS: &str = "created done granted revoked denied never taken aborted undeclared refused";
 
-/// Appends one to nine of the first so many grantees, each once, with commas between them: nine are one too many.
+/// Appends one to nine of the first `count` grantees, each once, with commas between them: nine are one too many.
 fn put_grantees(log: &mut Vec<u8>, generator: &mut Generator, most: u32) -> Result<(), AllocError> {
     let most = most.clamp(1, 9);
     let (first, count) = (generator.below(most), generator.below(most));
@@ -93,8 +93,8 @@ fn put_kinds(log: &mut Vec<u8>, generator: &mut Generator) -> Result<(), AllocEr
     Ok(())
 }
 
-/// Appends what is drawn in place of a byte of a line: of `@` a user, of `&` one to eight grantees, of `*` one to nine of them and PUBLIC, of
-/// `^` one to four kinds.
+/// Appends what is drawn in place of a byte of a line: of `@` a user, of `&` one to eight grantees, of `*` one to nine of them and PUBLIC,
+/// of `^` one to four kinds.
 fn put_drawn_byte(
     log: &mut Vec<u8>,
     generator: &mut Generator,

@@ -6,7 +6,6 @@ use audit_text::AuditFault;
 use engine::EngineFault;
 use line_io::{Counted, MemoryReader, MemoryWriter};
 use std::alloc::{AllocError, Global};
-use std::rt::Files;
 use std::sync::Wait;
 use std::thread::Threads;
 use trials_base::TrialFault;
@@ -17,9 +16,9 @@ const TRIES: u64 = 200;
 /// What fails.
 #[derive(Clone, Copy, Debug, PartialEq, Eq)]
 pub enum Failing {
-    /// The reader, at each of its reads in turn.
+    /// The reader, at each of its reads.
     Reads,
-    /// The writer, at each of its writes in turn.
+    /// The writer, at each of its writes.
     Writes,
     /// The writer, at its flush; and one that takes no byte.
     Ends,
@@ -147,16 +146,15 @@ fn count_run<R: Threads + Wait + Sync>(
 }
 
 /// How the runs of a log end where this fails.
-pub fn failing_runs<R: Files + Threads + Wait + Sync>(
+pub fn failing_runs<R: Threads + Wait + Sync>(
     rt: &R,
     alloc: Global,
     failing: Failing,
     case: &Runs<'_>,
 ) -> Result<String, TrialFault> {
-    let log = case.log.bytes(rt, alloc)?;
     let mut counts = Counts::default();
     for run in case.runs.as_slice() {
-        count_run(rt, alloc, failing, log.as_slice(), run, &mut counts)?;
+        count_run(rt, alloc, failing, case.bytes.as_slice(), run, &mut counts)?;
     }
     Ok(counts.outcome(alloc)?)
 }

@@ -5,9 +5,8 @@ use crate::printing::put_part;
 use crate::run::Run;
 use batched_text::{Settings, run_text};
 use line_io::Counted;
-use model_base::RowNumber;
+use model_base::{HashSeed, RowNumber};
 use std::alloc::Global;
-use std::rt::Files;
 use std::sync::Wait;
 use std::thread::Threads;
 use trials_base::{TrialFault, row_text};
@@ -22,7 +21,8 @@ fn rows_by<T: Threads + Wait + Sync>(
 ) -> Result<String, TrialFault> {
     let mut reader = Counted::new(log);
     let mut report = Counted::new(Vec::new(alloc));
-    let engine = run_text(rt, alloc, &mut reader, &mut report, settings)?;
+    let seed = HashSeed::fixed();
+    let engine = run_text(rt, alloc, &mut reader, &mut report, settings, seed)?;
     let (keep, mark) = (settings.keep, engine.mark());
     let mut told = format!(in alloc; "\nkeep {keep}: mark {mark}")?;
     for place in 0..=engine.finished() {
@@ -35,20 +35,20 @@ fn rows_by<T: Threads + Wait + Sync>(
     Ok(told)
 }
 
-/// A line for each run of a log, which is one in batches that are kept: the mark of the engine that it returns, and a row before each place.
-pub fn kept_rows<R: Files + Threads + Wait + Sync>(
+/// A line for each run of a log, which is one in batches that are kept: the mark of the engine that it returns, and a row before each
+/// place.
+pub fn kept_rows<R: Threads + Wait + Sync>(
     rt: &R,
     alloc: Global,
     row: RowNumber,
     case: &Runs<'_>,
 ) -> Result<String, TrialFault> {
-    let log = case.log.bytes(rt, alloc)?;
     let mut outcome = format!(in alloc; "{} engines", case.runs.len())?;
     for run in case.runs.as_slice() {
         let Run::Kept(settings) = run else {
             return Err(TrialFault::NoSuchRun);
         };
-        let told = rows_by(rt, alloc, log.as_slice(), row, settings)?;
+        let told = rows_by(rt, alloc, case.bytes.as_slice(), row, settings)?;
         outcome.push_str(told.as_str())?;
     }
     Ok(outcome)

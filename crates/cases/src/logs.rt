@@ -17,7 +17,7 @@ pub enum Log<'a> {
     Users(u32),
     /// `tables:COUNT`: this many creations of tables, and then a line that reads the first.
     Tables(u32),
-    /// `rows:LINES:ROWS`: this many lines that insert the rows first, and change them in turn then.
+    /// `rows:LINES:ROWS`: this many lines that insert the rows first, and then change them one after another.
     Rows(u32, u32),
 }
 
@@ -71,7 +71,7 @@ fn put_row(alloc: Global, log: &mut Vec<u8>, number: u32, rows: u32) -> Result<(
     log.extend_from_slice(line.as_bytes())
 }
 
-/// This many lines that insert rows first, and change them in turn then.
+/// This many lines that insert rows first, and then change them one after another.
 fn log_of_rows(alloc: Global, lines: u32, rows: u32) -> Result<Vec<u8>, AllocError> {
     let mut log = Vec::from_slice(alloc, b"alice CREATE t 1\n")?;
     for number in 0..lines {

@@ -1,7 +1,7 @@
 //! Runs cases that are written in files.
 //!
-//! `cases FILE..` reads each line of each file as a case, a verb (`verbs.rt`) and its words, and prints the line with what it results in. An
-//! empty line is none, and one that begins with `#` is a comment. What is printed is compared with `stdout`.
+//! `cases FILE..` reads each line of each file as a case, a verb (`verbs.rt`) and its words, and prints the line with what it results in.
+//! An empty line is none, and one that begins with `#` is a comment. What is printed is compared with `stdout`.
 #![tactic(auto)]
 
 mod changed;

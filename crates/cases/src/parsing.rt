@@ -9,10 +9,11 @@ use std::alloc::Global;
 use std::rt::Files;
 use trials_base::{TrialFault, read_file, text_of};
 
-/// A log, and the runs of it.
+/// A log, its bytes, and the runs of it.
 #[derive(Drop)]
 pub struct Runs<'a> {
     pub log: Log<'a>,
+    pub bytes: Vec<u8>,
     pub runs: Vec<Run>,
 }
 
@@ -177,5 +178,6 @@ pub fn parse_runs<'a, R: Files>(
     };
     let log = parse_log(log)?;
     let runs = parse_run_list(rt, alloc, runs)?;
-    Ok(Runs { log, runs })
+    let bytes = log.bytes(rt, alloc)?;
+    Ok(Runs { log, bytes, runs })
 }

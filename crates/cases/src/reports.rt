@@ -17,9 +17,9 @@ pub fn worked_reports<R: Files + Threads + Wait + Sync>(
     alloc: Global,
     case: &Runs<'_>,
 ) -> Result<String, TrialFault> {
-    let (log, wanted) = (case.log.bytes(rt, alloc)?, case.log.report(rt, alloc)?);
-    let runs = case.runs.as_slice();
-    let right = right_runs(rt, alloc, log.as_slice(), runs, wanted.as_slice())?;
+    let wanted = case.log.report(rt, alloc)?;
+    let (log, runs) = (case.bytes.as_slice(), case.runs.as_slice());
+    let right = right_runs(rt, alloc, log, runs, wanted.as_slice())?;
     let count = runs.len();
     Ok(format!(in alloc; "as worked by {right} of {count} runs")?)
 }
@@ -48,16 +48,15 @@ fn last_line(text: &[u8]) -> &[u8] {
 }
 
 /// How long the report of the run in order is, how it ends, and how many of the runs write the same.
-pub fn same_reports<R: Files + Threads + Wait + Sync>(
+pub fn same_reports<R: Threads + Wait + Sync>(
     rt: &R,
     alloc: Global,
     case: &Runs<'_>,
 ) -> Result<String, TrialFault> {
-    let log = case.log.bytes(rt, alloc)?;
-    let report = Run::in_order().text(rt, alloc, log.as_slice())?;
+    let (log, runs) = (case.bytes.as_slice(), case.runs.as_slice());
+    let report = Run::in_order().text(rt, alloc, log)?;
     let report = report.as_slice();
-    let same = right_runs(rt, alloc, log.as_slice(), case.runs.as_slice(), report)?;
-    let count = case.runs.len();
+    let (same, count) = (right_runs(rt, alloc, log, runs, report)?, runs.len());
     let (lines, bytes) = (line_count(report), report.len());
     let last = str::from_utf8(last_line(report)).unwrap_or("no text");
     Ok(format!(in alloc;
@@ -79,13 +78,12 @@ pub fn is_reported<R: Threads + Wait + Sync>(
 }
 
 /// For how many of the beginnings of a log, whose last line may so be cut anywhere, all runs write one report with as many lines.
-pub fn beginnings<R: Files + Threads + Wait + Sync>(
+pub fn beginnings<R: Threads + Wait + Sync>(
     rt: &R,
     alloc: Global,
     case: &Runs<'_>,
 ) -> Result<String, TrialFault> {
-    let log = case.log.bytes(rt, alloc)?;
-    let log = log.as_slice();
+    let log = case.bytes.as_slice();
     let mut right: usize = 0;
     for length in 0..log.len() + 1 {
         if is_reported(rt, alloc, &log[..length], case.runs.as_slice())? {

@@ -1,11 +1,8 @@
 //! The runs of a log.
 
 use audit_text::{Question, explain_text, grants_text};
-use batched_text::{
-    ReadingAhead, Settings, report_in_order, report_in_order_seeded, report_text,
-    report_text_seeded, run_text,
-};
-use bohm_base::{serial_text, serial_text_seeded};
+use batched_text::{ReadingAhead, Settings, report_in_order, report_text, run_text};
+use bohm_base::serial_text;
 use line_io::Counted;
 use model_base::{HashSeed, Place};
 use std::alloc::Global;
@@ -69,21 +66,22 @@ impl Run {
         log: &mut Counted<R>,
         text: &mut Counted<W>,
     ) -> Result<(), TrialFault> {
+        let fixed = HashSeed::fixed();
         match self {
-            Run::InOrder(ahead) => report_in_order(rt, alloc, log, text, ahead)?,
-            Run::Slow => serial_text(alloc, log, text)?,
-            Run::Batches(settings) => report_text(rt, alloc, log, text, &settings)?,
+            Run::InOrder(ahead) => report_in_order(rt, alloc, log, text, ahead, fixed)?,
+            Run::Slow => serial_text(alloc, log, text, fixed)?,
+            Run::Batches(settings) => report_text(rt, alloc, log, text, &settings, fixed)?,
             Run::Kept(settings) => run_kept(rt, alloc, log, text, &settings)?,
             Run::SeededInOrder(byte) => {
                 let (ahead, seed) = (ReadingAhead::by(0), seed_of(byte)?);
-                report_in_order_seeded(rt, alloc, log, text, ahead, seed)?
+                report_in_order(rt, alloc, log, text, ahead, seed)?
             }
-            Run::SeededSlow(byte) => serial_text_seeded(alloc, log, text, seed_of(byte)?)?,
+            Run::SeededSlow(byte) => serial_text(alloc, log, text, seed_of(byte)?)?,
             Run::SeededBatches(byte, settings) => {
-                report_text_seeded(rt, alloc, log, text, &settings, seed_of(byte)?)?
+                report_text(rt, alloc, log, text, &settings, seed_of(byte)?)?
             }
-            Run::Explain(question) => explain_text(rt, alloc, log, text, question)?,
-            Run::Picture(limit) => grants_text(rt, alloc, log, text, limit)?,
+            Run::Explain(question) => explain_text(rt, alloc, log, text, question, fixed)?,
+            Run::Picture(limit) => grants_text(rt, alloc, log, text, limit, fixed)?,
         }
         Ok(())
     }
@@ -109,7 +107,7 @@ fn run_kept<T: Threads + Wait + Sync, R: Read, W: Write>(
     text: &mut Counted<W>,
     settings: &Settings,
 ) -> Result<(), TrialFault> {
-    let _engine = run_text(rt, alloc, log, text, settings)?;
+    let _engine = run_text(rt, alloc, log, text, settings, HashSeed::fixed())?;
     Ok(())
 }
 

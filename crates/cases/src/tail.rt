@@ -2,15 +2,12 @@
 
 ghost use Rattle.std.specs.Prelude.{None};
 
-use crate::parsing::Runs;
-use crate::printing::put_part;
 use crate::run::Run;
 use line_io::Counted;
 use std::alloc::Global;
 use std::cell::Cell;
 use std::io;
 use std::io::{Read, Write};
-use std::rt::Files;
 use std::sync::Wait;
 use std::thread::Threads;
 use trials_base::TrialFault;
@@ -111,15 +108,16 @@ impl Write for Report<'_> {
     }
 }
 
-/// Runs a log that comes so, and says how many reads and writes that took, how many reads were late, and whether the report is right.
-fn tailed_run<R: Threads + Wait + Sync>(
+/// Runs a log that comes so, and says how many reads and writes that took, how many reads were late, and whether the report is that of the
+/// run in order.
+pub fn tailed_run<R: Threads + Wait + Sync>(
     rt: &R,
     alloc: Global,
     log: &[u8],
     bits: Bits,
     run: &Run,
-    wanted: &[u8],
 ) -> Result<String, TrialFault> {
+    let wanted = Run::in_order().text(rt, alloc, log)?;
     let reported = Cell::new(0);
     let mut tail = Counted::new(Tail {
         left: log,
@@ -136,27 +134,10 @@ fn tailed_run<R: Threads + Wait + Sync>(
     });
     run.execute(rt, alloc, &mut tail, &mut report)?;
     let (reads, late, writes) = (tail.inner.reads, tail.inner.late, report.inner.writes);
-    let same = if report.inner.text.as_slice() == wanted {
+    let same = if report.inner.text.as_slice() == wanted.as_slice() {
         "same"
     } else {
         "other"
     };
     Ok(format!(in alloc; "{reads} reads, {late} late, {writes} writes, the {same} report")?)
-}
-
-/// How often each run reads and writes where a log comes so, how many reads are late, and whether the report is that of the run in order.
-pub fn tailed_runs<R: Files + Threads + Wait + Sync>(
-    rt: &R,
-    alloc: Global,
-    bits: Bits,
-    case: &Runs<'_>,
-) -> Result<String, TrialFault> {
-    let log = case.log.bytes(rt, alloc)?;
-    let wanted = Run::in_order().text(rt, alloc, log.as_slice())?;
-    let mut outcome = String::new(alloc);
-    for run in case.runs.as_slice() {
-        let part = tailed_run(rt, alloc, log.as_slice(), bits, run, wanted.as_slice())?;
-        put_part(&mut outcome, part.as_str())?;
-    }
-    Ok(outcome)
 }

@@ -2,15 +2,19 @@
 //!
 //! - `report NAME RUN..`: by how many of the runs NAME.log has the report NAME.report.
 //! - `same LOG RUN..`: how long the report of the run in order is, how it ends, and how many of the runs write the same.
-//! - `beginnings LOG RUN..`: for how many of its beginnings the report of the run in order has as many lines as the beginning, and is that of
-//!   the other runs too. `changes EVERY LOG RUN..`: the same of the log with one byte changed to another value, for each EVERY-th of these.
-//! - `rows ROW LOG RUN..`: the mark of the engine that each run returns, and this row of the first table before each place. The runs are `kept:..`.
+//! - `beginnings LOG RUN..`: for how many of its beginnings the report of the run in order has as many lines as the beginning, and is that
+//!   of the other runs too. `changes EVERY LOG RUN..`: the same of the log with one byte changed to another value, for each EVERY-th of
+//!   these.
+//! - `rows ROW LOG RUN..`: the mark of the engine that each run returns, and this row of the first table before each place. The runs are
+//!   `kept:..`.
 //! - `print LOG RUN..`: the texts that the runs write. `ends LOG RUN..`: how each run ends, and how much it reads and writes.
 //! - `fail reads|writes|ends LOG RUN..`: how the runs end where each read fails, or each write, or the flush, or no byte is taken.
 //! - `tail lines|halves|pieces LOG RUN..`: how often each run reads and writes where the log comes bit by bit, and how many reads are late.
-//! - `drawn SEED LOGS LINES FILE LAST RUN..`: how many runs of logs, drawn from the lines of FILE and ended by the log LAST, write the report
-//!   of the run in order, and how often each ending is in these. `spoilt ..`: with one byte of each line changed; `reworded ..`: one word.
-//! - `words WORD..`: what a command line asks for, or with which status it ends. `endings`: the status and the line of each fault of the program.
+//! - `drawn SEED LOGS LINES FILE LAST RUN..`: how many runs of logs, drawn from the lines of FILE and ended by the log LAST, write the
+//!   report of the run in order, and how often each ending is in these. `spoilt ..`: with one byte of each line changed; `reworded ..`: one
+//!   word.
+//! - `words WORD..`: what a command line asks for, or with which status it ends. `endings`: the status and the line of each fault of the
+//!   program.
 //! - `examples FILE`: how many examples a file has, and how many of them are as it shows.
 
 use crate::changed::changed_logs;
@@ -20,9 +24,9 @@ use crate::examples::shown_examples;
 use crate::failing::{Failing, failing_runs};
 use crate::kept_rows::kept_rows;
 use crate::parsing::{Runs, parse_count, parse_log, parse_number, parse_run_list, parse_runs};
-use crate::printing::{ended_runs, printed_texts};
+use crate::printing::{Telling, told_runs};
 use crate::reports::{beginnings, same_reports, worked_reports};
-use crate::tail::{Bits, tailed_runs};
+use crate::tail::Bits;
 use std::alloc::Global;
 use std::rt::Files;
 use std::sync::Wait;
@@ -74,9 +78,9 @@ fn more_outcome<R: Files + Threads + Wait + Sync>(
         ("fail", "reads") => failing_runs(rt, alloc, Failing::Reads, &runs),
         ("fail", "writes") => failing_runs(rt, alloc, Failing::Writes, &runs),
         ("fail", "ends") => failing_runs(rt, alloc, Failing::Ends, &runs),
-        ("tail", "lines") => tailed_runs(rt, alloc, Bits::Lines, &runs),
-        ("tail", "halves") => tailed_runs(rt, alloc, Bits::Halves, &runs),
-        ("tail", "pieces") => tailed_runs(rt, alloc, Bits::Pieces, &runs),
+        ("tail", "lines") => told_runs(rt, alloc, Telling::Tail(Bits::Lines), &runs),
+        ("tail", "halves") => told_runs(rt, alloc, Telling::Tail(Bits::Halves), &runs),
+        ("tail", "pieces") => told_runs(rt, alloc, Telling::Tail(Bits::Pieces), &runs),
         ("changes", every) => changed_logs(rt, alloc, parse_number(every)? as usize, &runs),
         ("rows", row) => kept_rows(rt, alloc, parse_count(row)?, &runs),
         _ => Err(TrialFault::Words),
@@ -94,8 +98,8 @@ fn words_outcome<R: Files + Threads + Wait + Sync>(
         "report" => worked_reports(rt, alloc, &parse_runs(rt, alloc, words)?),
         "same" => same_reports(rt, alloc, &parse_runs(rt, alloc, words)?),
         "beginnings" => beginnings(rt, alloc, &parse_runs(rt, alloc, words)?),
-        "print" => printed_texts(rt, alloc, &parse_runs(rt, alloc, words)?),
-        "ends" => ended_runs(rt, alloc, &parse_runs(rt, alloc, words)?),
+        "print" => told_runs(rt, alloc, Telling::Text, &parse_runs(rt, alloc, words)?),
+        "ends" => told_runs(rt, alloc, Telling::End, &parse_runs(rt, alloc, words)?),
         "drawn" => drawn_reports(rt, alloc, &parse_drawn(rt, alloc, words, Change::Nothing)?),
         "spoilt" => drawn_reports(rt, alloc, &parse_drawn(rt, alloc, words, Change::Byte)?),
         "reworded" => drawn_reports(rt, alloc, &parse_drawn(rt, alloc, words, Change::Word)?),

@@ -40,7 +40,7 @@ fn print_cases<R: Threads + Wait + Print + Sync>(
     Ok(())
 }
 
-/// Makes the trials in turn.
+/// Makes the trials, one after another.
 fn tell<R: Files + Threads + Wait + Print + Sync>(rt: &R, alloc: Global) -> Result<(), TrialFault> {
     let cases = read_file(rt, alloc, "engine.cases")?;
     print_cases(

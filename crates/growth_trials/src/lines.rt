@@ -4,7 +4,7 @@ use crate::refusal::print_refused;
 use engine::Engine;
 use log_text::{RawStatement, parse_line, print_statement};
 use model::serial;
-use model_base::{Key, Table};
+use model_base::{HashSeed, Key, Table};
 use std::alloc::{AllocError, Global};
 use trials_base::TrialFault;
 
@@ -79,7 +79,13 @@ pub fn try_statements(rt: &impl Print, alloc: Global) -> Result<(), TrialFault> 
     }
     let log = engine.log();
     let _dropped = log.dropped();
-    let outcomes = again!(rt, "serial", serial(alloc, log.kept_statements()), true);
+    let seed = HashSeed::fixed();
+    let outcomes = again!(
+        rt,
+        "serial",
+        serial(alloc, log.kept_statements(), seed),
+        true
+    );
     println!(rt; "serial: {outcomes:?}")?;
     Ok(())
 }

@@ -2,8 +2,8 @@
 
 use trials_base::TrialFault;
 
-/// Prints that a growth, or the start of a thread, was refused to a call, and whether what is left is as it has to be then. Any other fault is
-/// returned.
+/// Prints that a growth, or the start of a thread, was refused to a call, and whether what is left is as it has to be then. Any other fault
+/// is returned.
 pub fn print_refused(
     rt: &impl Print,
     call: &str,

@@ -5,7 +5,7 @@ use audit_text::{Question, explain_text, grants_text};
 use batched_text::{Settings, report_text, run_text};
 use bohm_base::serial_text;
 use line_io::Counted;
-use model_base::Place;
+use model_base::{HashSeed, Place};
 use std::alloc::Global;
 use std::sync::Wait;
 use std::thread::Threads;
@@ -55,21 +55,22 @@ impl Text {
         log: &[u8],
         text: &mut Counted<Vec<u8>>,
     ) -> Result<(), TrialFault> {
+        let seed = HashSeed::fixed();
         let mut log = Counted::new(log);
         match self {
-            Text::Slow => serial_text(alloc, &mut log, text)?,
-            Text::Batches(settings) => report_text(rt, alloc, &mut log, text, settings)?,
+            Text::Slow => serial_text(alloc, &mut log, text, seed)?,
+            Text::Batches(settings) => report_text(rt, alloc, &mut log, text, settings, seed)?,
             Text::Kept(settings) => {
-                let _engine = run_text(rt, alloc, &mut log, text, settings)?;
+                let _engine = run_text(rt, alloc, &mut log, text, settings, seed)?;
             }
             Text::Explanation(place) => {
                 let question = Question {
                     place: *place,
                     is_checked: true,
                 };
-                explain_text(rt, alloc, &mut log, text, question)?
+                explain_text(rt, alloc, &mut log, text, question, seed)?
             }
-            Text::Picture => grants_text(rt, alloc, &mut log, text, None)?,
+            Text::Picture => grants_text(rt, alloc, &mut log, text, None, seed)?,
         }
         Ok(())
     }

@@ -196,8 +196,9 @@ fn change(
     Ok(format!(in alloc; "{tables} tables, {records} records")?)
 }
 
-/// Makes a case on both books, and says what it results in, which has to be the same of both: a change; `revoke PLACE USER USER`, and of one
-/// that isn't made `ends`; `need PLACE USER KIND`, with `OPTION` or without; `lines PLACE USER KIND`, of the book alone; `view PLACE USER USER`.
+/// Makes a case on both books, and says what it results in, which has to be the same of both: a change; `revoke PLACE USER USER`, and of
+/// one that isn't made `ends`; `need PLACE USER KIND`, with `OPTION` or without; `lines PLACE USER KIND`, of the book alone; `view PLACE
+/// USER USER`.
 pub fn outcome(alloc: Global, both: &mut Both, words: &[&str]) -> Result<String, TrialFault> {
     let [verb, words @ ..] = words else {
         return Err(TrialFault::NotText);

@@ -5,8 +5,8 @@ use sequencer::Catalog;
 use std::alloc::{AllocError, Global};
 use trials_base::{TrialFault, log_of};
 
-/// Lines whose names are known from the second on: what they ask for is foretold, but for a new user, a new table, a new grantee and a column
-/// that isn't there.
+/// Lines whose names are known from the second on: what they ask for is foretold, but for a new user, a new table, a new grantee and a
+/// column that isn't there.
 const LINES: &str = "alice RUN t:1:R\n\
     bob GRANT READ t alice\n\
     carol RUN t:1:R\n\

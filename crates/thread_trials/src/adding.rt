@@ -1,4 +1,4 @@
-//! Places that add 1 to some rows in turn.
+//! Places that add 1 to some rows, one after another.
 
 ghost use Rattle.std.specs.Prelude.{◌≡◌, ◌<◌};
 ghost use Rattle.words.specs.Passes.{IsPassOf};

@@ -9,7 +9,7 @@ use std::alloc::Global;
 use trials_base::TrialFault;
 use words::{BatchData, Pass};
 
-/// Closes the words of the two places, and tells their claims, and what each is when the batch is finished after them.
+/// Closes the words of the two places, and prints their claims, and what each is when the batch is finished after them.
 fn print_two(
     rt: &impl Print,
     alloc: Global,

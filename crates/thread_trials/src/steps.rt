@@ -120,8 +120,9 @@ fn print_other(
     }
 }
 
-/// Makes a step, and says what it returns: `ask INDEX`, `run PLACE`; by another pass `look INDEX`, `claim INDEX`, which gives the place back,
-/// or `drop INDEX`, where it is dropped while it holds the place; `all`, whether all is placed; `bodies`, how many bodies the pass has run.
+/// Makes a step, and says what it returns: `ask INDEX`, `run PLACE`; by another pass `look INDEX`, `claim INDEX`, which gives the place
+/// back, or `drop INDEX`, where it is dropped while it holds the place; `all`, whether all is placed; `bodies`, how many bodies the pass
+/// has run.
 fn print_step(
     rt: &impl Print,
     batch: &Batch<RangeKey<'_>>,
@@ -238,7 +239,7 @@ fn print_placing(
     Ok(())
 }
 
-/// Makes steps in turn with placing by the last two partitions of a batch, a place of the log for each line `first` or `second`.
+/// Makes steps between those of placing by the last two partitions of a batch, a place of the log for each line `first` or `second`.
 #[tactic(auto, using(crate::proofs::Opened::last_in, crate::proofs::Opened::rest_in))]
 pub fn print_turns(
     rt: &impl Print,

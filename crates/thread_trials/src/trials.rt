@@ -97,7 +97,7 @@ fn try_log<R: Threads + Wait + Print + Sync>(
     try_opened(rt, alloc, batch, pass, placers, trial)
 }
 
-/// Makes a trial on the last places of a log of lines that add 1 to a row in turn.
+/// Makes a trial on the last places of a log of lines that each add 1 to a row.
 pub fn try_chain<R: Threads + Wait + Print + Sync>(
     rt: &R,
     alloc: Global,
@@ -113,8 +113,8 @@ pub fn try_chain<R: Threads + Wait + Print + Sync>(
     Ok(())
 }
 
-/// Makes the trial of a file: the lines of a log, a line `batch FIRST PARTITIONS`, with `open` after it if it is to be placed by the steps, or
-/// `close` if its words are to be closed after them, and the steps of a row.
+/// Makes the trial of a file: the lines of a log, a line `batch FIRST PARTITIONS`, with `open` after it if it is to be placed by the steps,
+/// or `close` if its words are to be closed after them, and the steps of a row.
 pub fn try_file<R: Files + Threads + Wait + Print + Sync>(
     rt: &R,
     alloc: Global,

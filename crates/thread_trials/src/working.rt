@@ -1,4 +1,4 @@
-//! Workers on places that add 1 to a row, or to some rows in turn.
+//! Workers on places that add 1 to a row, or to some rows one after another.
 
 ghost use Rattle.std.specs.Prelude.{◌≡◌, All};
 ghost use Rattle.words.specs.Passes.{IsPassOf};
@@ -30,7 +30,7 @@ impl Gate for Counting {
     }
 }
 
-/// Places and runs a batch by this many workers. Returns what came of it, and whether each was told all places.
+/// Places and runs a batch by this many workers. Returns the outcome, and whether each was given all places.
 #[tactic(auto, using(crate::proofs::Opened::have_placed))]
 fn run_by<R: Threads + Wait + Sync>(
     rt: &R,
@@ -58,8 +58,8 @@ fn run_by<R: Threads + Wait + Sync>(
     (pass, worked, gate.done.load(Ordering::SeqCst) == wanted)
 }
 
-/// Tells what comes of a chain that this many workers place and run, or only run where there are no placers: what came of them, whether each
-/// was told each place, and what the places are then.
+/// Prints the outcome of a chain that this many workers place and run, or only run where there are no placers: the outcome, whether each
+/// was given each place, and what the places are then.
 pub fn print_workers<R: Threads + Wait + Print + Sync>(
     rt: &R,
     alloc: Global,

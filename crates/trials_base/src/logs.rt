@@ -82,8 +82,8 @@ pub fn log_of(alloc: Global, lines: &[&str]) -> Result<WholeLog, TrialFault> {
     Ok(log)
 }
 
-/// A line of a log of places that add: the first creates the table, one for each row puts 0 into it, and then each adds 1 to a row and puts out
-/// what it then has.
+/// A line of a log of places that add: the first creates the table, one for each row sets it to 0, and then each adds 1 to a row and puts
+/// out what it then has.
 fn adding_line(alloc: Global, number: usize, rows: usize) -> Result<String, AllocError> {
     if number == 0 {
         return String::from_str(alloc, "ann CREATE t 1");
