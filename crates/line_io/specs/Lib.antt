@@ -2,3 +2,5 @@
 pub mod Lines
 pub mod Known
 pub mod Ahead
+pub mod Faults
+pub mod Failures

@@ -1,8 +1,11 @@
-//! Why reading or writing ended early.
+//! Why reading, writing or a run ended early.
 ghost use Rattle.std.specs.Prelude.{◌≡◌};
-ghost use Rattle.line_io.specs.declared.fault.ReadFault.TheVariants.{NoMemory};
+ghost use Rattle.line_io.specs.Faults.{engine_fault_text, of_reading};
+ghost use Rattle.line_io.specs.declared.fault.EngineFault.{EngineFault};
+ghost use Rattle.line_io.specs.declared.fault.ReadFault.{ReadFault};
 
-use std::alloc::AllocError;
+use std::alloc::{AllocError, AllocFailed};
+use std::fmt;
 use thiserror::Error;
 
 /// Why no further line was read.
@@ -17,7 +20,7 @@ pub enum ReadFault {
 }
 
 impl From<AllocError> for ReadFault {
-    ghost from_gives = { λ _ e. e ≡ NoMemory };
+    ghost from_gives = { λ _ e. e ≡ ReadFault.NoMemory };
 
     fn from(_e: AllocError) -> ReadFault {
         ReadFault::NoMemory
@@ -28,3 +31,69 @@ impl From<AllocError> for ReadFault {
 #[derive(Clone, Copy, Debug, PartialEq, Eq, Error)]
 #[error("cannot write")]
 pub struct WriteFault;
+
+/// Why a batch wasn't run, or why a run ended before the end of its log.
+#[derive(Clone, Copy, Debug, PartialEq, Eq, Error)]
+pub enum EngineFault {
+    /// A growth was refused.
+    NoMemory = 1,
+    /// The reader failed.
+    Read = 2,
+    /// The writer failed, or took no byte of a piece that wasn't empty.
+    Write = 3,
+    /// A setting is outside its limits, or the range isn't one that can be run next.
+    BadSettings = 4,
+    /// A worker's thread could not be started.
+    Spawn = 5,
+}
+
+impl fmt::Display for EngineFault {
+    ghost use Rattle.std.specs.Prelude.{Some};
+
+    ghost output = { λ fault. Some (engine_fault_text fault) };
+
+    fn fmt<W: fmt::Write>(&self, f: &mut fmt::Formatter<W>) -> fmt::Result {
+        f.write_str(match self {
+            EngineFault::NoMemory => "out of memory",
+            EngineFault::Read => "cannot read",
+            EngineFault::Write => "cannot write",
+            EngineFault::BadSettings => "bad settings",
+            EngineFault::Spawn => "cannot start a worker",
+        })
+    }
+}
+
+impl From<AllocError> for EngineFault {
+    ghost from_gives = { λ _ e. e ≡ EngineFault.NoMemory };
+
+    fn from(_e: AllocError) -> EngineFault {
+        EngineFault::NoMemory
+    }
+}
+
+impl<T: Drop> From<AllocFailed<T>> for EngineFault {
+    ghost from_gives = { λ _ e. e ≡ EngineFault.NoMemory };
+
+    fn from(_e: AllocFailed<T>) -> EngineFault {
+        EngineFault::NoMemory
+    }
+}
+
+impl From<ReadFault> for EngineFault {
+    ghost from_gives = { λ fault e. e ≡ of_reading fault };
+
+    fn from(fault: ReadFault) -> EngineFault {
+        match fault {
+            ReadFault::NoMemory => EngineFault::NoMemory,
+            ReadFault::Read => EngineFault::Read,
+        }
+    }
+}
+
+impl From<WriteFault> for EngineFault {
+    ghost from_gives = { λ _ e. e ≡ EngineFault.Write };
+
+    fn from(_fault: WriteFault) -> EngineFault {
+        EngineFault::Write
+    }
+}

@@ -1,5 +1,8 @@
 -- A pass that goes on, and what it knows of the places.
-use Rattle.std.proofs.Common.{◌≡◌, ◌≢◌, ◌⊎◌, ◌<◌, ◌≤◌, ◌+◌, ◌++◌, ℕ, Bool, true, false, List, [], ◌∷◌, length, refl, subst, sym, ◌∙◌, arith, inl, inr}
+use Rattle.std.proofs.Common.{◌≡◌, ◌≢◌, ◌⊎◌, ◌<◌, ◌≤◌, ◌+◌, ◌++◌, ℕ, Bool, true, false, List, [], ◌∷◌, length, get_or, drop, All, IsPermutation, ap, refl, subst, sym, ◌∙◌, arith, inl, inr}
+use Rattle.std.proofs.lemmas.List.{append-nil, append_assoc}
+use Rattle.std.proofs.lemmas.List.Elements.{All-nil, All-push, All-same}
+use Rattle.std.proofs.lemmas.List.Sorted.{IsPermutation-append_right, IsPermutation-refl, IsPermutation-sym, IsPermutation-to_front, IsPermutation-trans}
 use Rattle.words.specs.declared.knowledge.Knowledge.{Knowledge}
 use Rattle.words.specs.Passes.{PassState, cut_first, joined_pass}
 use Rattle.words.specs.Views.{In, KeepsFronts}
@@ -10,7 +13,7 @@ use Rattle.filling_base.specs.Extending.{IsSamePass, OnlyLearns}
 use Rattle.filling_base.specs.Tries.{PlacedMeans, TriedMeans, UnplacedMeans}
 use Rattle.workers.specs.declared.work.Worked.{Worked}
 use Rattle.workers.specs.declared.work.Worked.TheVariants.{Done as WorkedDone, NoMemory as WorkedNoMemory, NotStarted}
-use Rattle.workers.specs.Working.{AreLeft, GoesOn, HasAsked, IsMissed, KnowsAll, asked_done, asked_missed, worse}
+use Rattle.workers.specs.Working.{AreLeft, GoesOn, HasAsked, IsAnswered, IsMissed, IsStopped, KnowsAll, worse}
 
 pub stays : (pass : PassState) → GoesOn pass pass
 stays pass = record { table = refl; number = refl; knows = λ index known. known; fronts = ((λ placed. placed), (λ partition count has. has)) }
@@ -153,19 +156,135 @@ asked_on batch index pass after tried same tells =
       fronts = tells_fronts batch index pass.view after.view tried tells;
     }
 
--- the first of the rest was asked for and is done, or was missed
-pub next_done : (batch : Batch) (pass before after : PassState) (index : ℕ) (rest now then : List ℕ) → now ≡ index ∷ then
-    → HasAsked batch pass rest before now → TriedMeans batch index before.view Done after.view → HasAsked batch pass rest after then
-next_done batch pass before after index rest now then is asked tells =
-    let all : HasAsked batch pass rest before (index ∷ then) = rw is at asked in
-    asked_done before after index then all tells
+-- in a round, after this many places: which were found done, which weren't asked for yet, and which were missed
+pub record IsAsking (batch : Batch) (pass after : PassState) (rest now : List ℕ) (count : ℕ) : Type 0 where
+  pub done : List ℕ
+  pub unasked : List ℕ
+  pub missed : List ℕ
+  pub each : IsPermutation rest (done ++ now)
+  pub is : now ≡ unasked ++ missed
+  pub all : count + length unasked ≡ length rest
+  pub found : All (IsAnswered batch pass after Done) done
+  pub vain : All (IsMissed batch pass after) missed
 
-pub next_missed : (batch : Batch) (pass before after : PassState) (index : ℕ) (rest now then turned : List ℕ) → now ≡ index ∷ then
-    → turned ≡ then ++ index ∷ [] → HasAsked batch pass rest before now → IsMissed batch index before.view after.view
-    → HasAsked batch pass rest after turned
-next_missed batch pass before after index rest now then turned is turns asked missed =
-    let all : HasAsked batch pass rest before (index ∷ then) = rw is at asked in
-    rw turns (asked_missed before after index then all missed)
+pub asking_none : (batch : Batch) (pass : PassState) (rest : List ℕ) → IsAsking batch pass pass rest rest 0
+asking_none batch pass rest = record {
+  done = [];
+  unasked = rest;
+  missed = [];
+  each = IsPermutation-refl rest;
+  is = sym (append-nil rest);
+  all = omega arith;
+  found = All-nil (IsAnswered batch pass pass Done);
+  vain = All-nil (IsMissed batch pass pass);
+}
+
+answered_on : (batch : Batch) (pass before after : PassState) (answer : Tried) (index : ℕ) → GoesOn before after
+    → IsAnswered batch pass before answer index → IsAnswered batch pass after answer index
+answered_on batch pass before after answer index goes was =
+    record { asks = was.asks; finds = was.finds; from = was.from; means = was.means; to = on_and_on was.finds before after was.to goes }
+
+missed_on : (batch : Batch) (pass before after : PassState) (index : ℕ) → GoesOn before after → IsMissed batch pass before index
+    → IsMissed batch pass after index
+missed_on batch pass before after index goes was =
+    elim was [
+      | inl held ↦ inl (held.0, answered_on batch pass before after (Busy held.0) index goes held.1)
+      | inr unplaced ↦ inr (unplaced.0, answered_on batch pass before after (NotPlaced unplaced.0) index goes unplaced.1)
+    ]
+
+found_on : (batch : Batch) (pass before after : PassState) (done : List ℕ) → GoesOn before after → All (IsAnswered batch pass before Done) done
+    → All (IsAnswered batch pass after Done) done
+found_on batch pass before after done goes found = λ k d less. answered_on batch pass before after Done (get_or done k d) goes (found k d less)
+
+vain_on : (batch : Batch) (pass before after : PassState) (missed : List ℕ) → GoesOn before after → All (IsMissed batch pass before) missed
+    → All (IsMissed batch pass after) missed
+vain_on batch pass before after missed goes vain = λ k d less. missed_on batch pass before after (get_or missed k d) goes (vain k d less)
+
+-- the first of what is left wasn't asked for yet
+first_unasked : (index : ℕ) (then unasked missed : List ℕ) (count size : ℕ) → index ∷ then ≡ unasked ++ missed → count + length unasked ≡ size
+    → count < size → (others : List ℕ) × (then ≡ others ++ missed) × (count + 1 + length others ≡ size)
+first_unasked index then [] missed count size is all less = absurd (omega (arith, all, less))
+first_unasked index then (x ∷ others) missed count size is all less = (others, ap (drop 1) is, omega (arith, all))
+
+-- the pass asked for the first, with this outcome
+pub asked_first : (batch : Batch) (pass before after : PassState) (answer : Tried) (index : ℕ) → GoesOn pass before
+    → GoesOn before after → TriedMeans batch index before.view answer after.view → IsAnswered batch pass after answer index
+asked_first batch pass before after answer index from goes means =
+    record { asks = before; finds = after; from = from; means = means; to = stays after }
+
+pub asking_done : (batch : Batch) (pass before after : PassState) (index : ℕ) (rest now then : List ℕ) (count : ℕ)
+    → IsAsking batch pass before rest now count → count < length rest → now ≡ index ∷ then → GoesOn before after
+    → IsAnswered batch pass after Done index → IsAsking batch pass after rest then (count + 1)
+asking_done batch pass before after index rest now then count asking less is goes answered =
+    let one = first_unasked index then asking.unasked asking.missed count (length rest) (sym is ∙ asking.is) asking.all less in
+    record {
+      done = asking.done ++ index ∷ [];
+      unasked = one.0;
+      missed = asking.missed;
+      each = subst (IsPermutation rest) (sym (append_assoc asking.done (index ∷ []) then))
+          (subst (λ (xs : List ℕ). IsPermutation rest (asking.done ++ xs)) is asking.each);
+      is = one.1;
+      all = one.2;
+      found = All-push (IsAnswered batch pass after Done) asking.done index (found_on batch pass before after asking.done goes asking.found) answered;
+      vain = vain_on batch pass before after asking.missed goes asking.vain;
+    }
+
+pub asking_missed : (batch : Batch) (pass before after : PassState) (index : ℕ) (rest now then turned : List ℕ) (count : ℕ)
+    → IsAsking batch pass before rest now count → count < length rest → now ≡ index ∷ then → turned ≡ then ++ index ∷ []
+    → GoesOn before after → IsMissed batch pass after index → IsAsking batch pass after rest turned (count + 1)
+asking_missed batch pass before after index rest now then turned count asking less is turns goes missed =
+    let one = first_unasked index then asking.unasked asking.missed count (length rest) (sym is ∙ asking.is) asking.all less in
+    record {
+      done = asking.done;
+      unasked = one.0;
+      missed = asking.missed ++ index ∷ [];
+      each = subst (λ (xs : List ℕ). IsPermutation rest (asking.done ++ xs)) (sym turns)
+          (IsPermutation-trans rest (asking.done ++ index ∷ then) (asking.done ++ (then ++ index ∷ []))
+          (subst (λ (xs : List ℕ). IsPermutation rest (asking.done ++ xs)) is asking.each)
+          (IsPermutation-append_right asking.done (index ∷ then) (then ++ index ∷ [])
+          (IsPermutation-sym (then ++ index ∷ []) (index ∷ then) (IsPermutation-to_front then index))));
+      is = turns ∙ (ap (λ (xs : List ℕ). xs ++ index ∷ []) one.1 ∙ append_assoc one.0 asking.missed (index ∷ []));
+      all = one.2;
+      found = found_on batch pass before after asking.done goes asking.found;
+      vain = All-push (IsMissed batch pass after) asking.missed index (vain_on batch pass before after asking.missed goes asking.vain) missed;
+    }
+
+-- all were asked for, since there was none more or since they were this many
+pub asked_none : (batch : Batch) (pass after : PassState) (rest now left : List ℕ) (count : ℕ) → IsAsking batch pass after rest now count
+    → now ≡ left → length now ≡ 0 → HasAsked batch pass rest after left
+asked_none batch pass after rest now left count asking same empty =
+    let none : now ≡ [] = none_of now empty in
+    record {
+      done = asking.done;
+      each = subst (λ (xs : List ℕ). IsPermutation rest (asking.done ++ xs)) same asking.each;
+      found = asking.found;
+      missed = All-same (IsMissed batch pass after) left [] (sym same ∙ none) (All-nil (IsMissed batch pass after));
+    }
+
+pub asked_all : (batch : Batch) (pass after : PassState) (rest now : List ℕ) (count : ℕ) → IsAsking batch pass after rest now count
+    → length rest ≤ count → HasAsked batch pass rest after now
+asked_all batch pass after rest now count asking all =
+    let none : asking.unasked ≡ [] = none_of asking.unasked (omega (arith, asking.all, all)) in
+    record {
+      done = asking.done;
+      each = asking.each;
+      found = asking.found;
+      missed = All-same (IsMissed batch pass after) now asking.missed (asking.is ∙ ap (λ (xs : List ℕ). xs ++ asking.missed) none) asking.vain;
+    }
+
+-- the pass was stopped before the next, or for lack of memory for it
+pub stopped_before : (batch : Batch) (pass after : PassState) (rest now : List ℕ) (count : ℕ) → IsAsking batch pass after rest now count
+    → IsStopped batch pass rest after now
+stopped_before batch pass after rest now count asking = record { done = asking.done; found = asking.found; each = inl asking.each }
+
+pub stopped_at : (batch : Batch) (pass before after : PassState) (index : ℕ) (rest now then : List ℕ) (count : ℕ)
+    → IsAsking batch pass before rest now count → now ≡ index ∷ then → GoesOn before after → IsAnswered batch pass after NoMemory index
+    → IsStopped batch pass rest after then
+stopped_at batch pass before after index rest now then count asking is goes refused = record {
+  done = asking.done;
+  found = found_on batch pass before after asking.done goes asking.found;
+  each = inr (index, refused, subst (λ (xs : List ℕ). IsPermutation rest (asking.done ++ xs)) is asking.each);
+}
 
 -- what came of two workers is that all is done only if both resulted in that
 pub worse_done : (one other : Worked) → worse one other ≡ WorkedDone → one ≡ WorkedDone

@@ -1,8 +1,10 @@
 //! Why a batch was not run.
 
 ghost use Rattle.std.specs.Prelude.{◌≡◌};
+ghost use Rattle.workers.specs.Faults.{engine_fault};
 ghost use Rattle.workers.specs.declared.fault.RunFault.TheVariants.{NoMemory};
 
+use line_io::EngineFault;
 use std::alloc::AllocError;
 use thiserror::Error;
 
@@ -22,5 +24,16 @@ impl From<AllocError> for RunFault {
 
     fn from(_e: AllocError) -> RunFault {
         RunFault::NoMemory
+    }
+}
+
+impl From<RunFault> for EngineFault {
+    ghost from_gives = { λ fault e. e ≡ engine_fault fault };
+
+    fn from(fault: RunFault) -> EngineFault {
+        match fault {
+            RunFault::NoMemory => EngineFault::NoMemory,
+            RunFault::Spawn => EngineFault::Spawn,
+        }
     }
 }

@@ -24,8 +24,8 @@ pub(crate) fn look<K: Fills>(batch: &Batch<K>, pass: Pass) -> Pass
     looked
 }
 
-/// Asks once for each place of the rest, in order: one that is done leaves the rest, and any other goes to its end. Where memory is
-/// refused it stops the workers. False if they were stopped.
+/// Asks once for each place of the rest, in order: one that is done leaves the rest, and any other goes to its end.
+/// Where memory runs out it stops the workers. False if they were stopped.
 pub(crate) fn go_round<K: Fills, G: Gate>(
     shared: &Shared<'_, K, G>,
     pass: Pass,

@@ -1,13 +1,13 @@
-use Rattle.std.proofs.Common.{◌<◌, arith, inl, inr, subst, sym}
+use Rattle.std.proofs.Common.{◌<◌, length, arith, inl, inr, subst, sym}
 use Rattle.filling_base.specs.declared.run.Tried.{Tried}
+use Rattle.filling_base.specs.declared.run.Tried.TheVariants.{Done, Busy, NotPlaced, NoMemory}
 use Rattle.filling_base.specs.Tries.{TriedMeans}
-use Rattle.workers.specs.Working.{asked_none}
-use Rattle.workers.proofs.Going.{asked_on, left_done, left_first, left_open, next_done, next_missed, on_and_on, stays, tells_done}
+use Rattle.workers.proofs.Going.{asked_all, asked_first, asked_none, asked_on, asking_done, asking_missed, asking_none, left_done, left_first, left_open, on_and_on, stays, stopped_at, stopped_before, tells_done}
 use Rattle.workers.proofs.rounds.go_round.Goals as goal
-use Rattle.workers.proofs.rounds.go_round.Goals.{in-Busy, in-Done, in-NotPlaced}
+use Rattle.workers.proofs.rounds.go_round.Goals.{else-loop-test, in-Busy, in-Done, in-NotPlaced, then-loop-test+else-load+in_default}
 
 pub loop-init : goal.loop-init
-loop-init g c = record { on = stays c.args.pass; left = c.requires.left; asked = asked_none }
+loop-init g c = record { on = stays c.args.pass; left = c.requires.left; asked = asking_none (g.K.BatchData.batch c.args.shared.now.key) c.args.pass c.args.rest.now.items }
 
 pub overflow_add-place : goal.overflow_add-place
 overflow_add-place g c =
@@ -31,16 +31,16 @@ returns-in-NoMemory-clause-on g c =
 pub returns-in-NoMemory-clause-stopped : goal.returns-in-NoMemory-clause-stopped
 returns-in-NoMemory-clause-stopped g c _ =
     let batch = g.K.BatchData.batch c.args.shared.now.key in
+    let index = c.in-Some.index in
+    let before = c.loop.last in
     let after = c.try_run-next.result.0 in
-    let then = c.pop_front.new.self.items in
-    let tells = subst (λ words. TriedMeans (g.K.BatchData.batch words.key) c.in-Some.index c.loop.last.view c.try_run-next.result.1 after.view)
+    let tells = subst (λ words. TriedMeans (g.K.BatchData.batch words.key) index before.view c.try_run-next.result.1 after.view)
     c.shared.view_is c.try_run-next.ensures.tells in
-    inr (
-      c.loop.last,
-      c.in-Some.index,
-      rw c.in-Some.ensures.items at c.loop.invariant.asked,
-      subst (λ (came : Tried). TriedMeans batch c.in-Some.index c.loop.last.view came after.view) c.in-NoMemory.is tells,
-    )
+    let goes = asked_on batch index before after c.try_run-next.result.1 c.try_run-next.ensures.same tells in
+    stopped_at batch c.args.pass before after index c.args.rest.now.items c.loop.rest.items c.pop_front.new.self.items c.loop.counter c.loop.invariant.asked
+    c.in-Some.ensures.items goes
+    (asked_first batch c.args.pass before after NoMemory index c.loop.invariant.on goes
+    (subst (λ (came : Tried). TriedMeans batch index before.view came after.view) c.in-NoMemory.is tells))
 
 pub loop-preserved : goal.loop-preserved
 loop-preserved g c =
@@ -57,28 +57,54 @@ loop-preserved g c =
     c.shared.view_is c.try_run-next.ensures.tells in
     let goes = asked_on batch index before after c.try_run-next.result.1 c.try_run-next.ensures.same tells in
     let on = on_and_on pass before after c.loop.invariant.on goes in
+    let less : c.loop.counter < length first = omega (arith, c.loop-test.true, c.len-end.ensures, c.args.rest.now.ok.0) in
     elim c.match-tried.branch [
       | in-Done w ↦ record {
         on = on;
         left = rw w.rest-is (left_done batch.size index before.view.known after.view.known rest then goes.knows is c.loop.invariant.left
             (tells_done batch index before.view after.view c.try_run-next.result.1 tells w.in-Done.is));
-        asked = rw w.rest-is (next_done batch pass before after index first rest then is c.loop.invariant.asked
-            (subst (λ (came : Tried). TriedMeans batch index before.view came after.view) w.in-Done.is tells));
+        asked = rw w.rest-is (asking_done batch pass before after index first rest then c.loop.counter c.loop.invariant.asked less is goes
+            (asked_first batch pass before after Done index c.loop.invariant.on goes
+            (subst (λ (came : Tried). TriedMeans batch index before.view came after.view) w.in-Done.is tells)));
       }
       | in-Busy w ↦ record {
         on = on;
         left = rw w.rest-is (left_open batch.size index before.view.known after.view.known rest then w.push_back_reserved.new.self.items goes.knows is
             w.push_back_reserved.ensures.items c.loop.invariant.left);
-        asked = rw w.rest-is (next_missed batch pass before after index first rest then w.push_back_reserved.new.self.items is
-            w.push_back_reserved.ensures.items c.loop.invariant.asked
-            (inl (w.in-Busy.field-0, subst (λ (came : Tried). TriedMeans batch index before.view came after.view) w.in-Busy.is tells)));
+        asked = rw w.rest-is (asking_missed batch pass before after index first rest then w.push_back_reserved.new.self.items c.loop.counter
+            c.loop.invariant.asked less is w.push_back_reserved.ensures.items goes
+            (inl (
+              w.in-Busy.field-0,
+              asked_first batch pass before after (Busy w.in-Busy.field-0) index c.loop.invariant.on goes
+                  (subst (λ (came : Tried). TriedMeans batch index before.view came after.view) w.in-Busy.is tells),
+            )));
       }
       | in-NotPlaced w ↦ record {
         on = on;
         left = rw w.rest-is (left_open batch.size index before.view.known after.view.known rest then w.push_back_reserved-in-NotPlaced.new.self.items goes.knows is
             w.push_back_reserved-in-NotPlaced.ensures.items c.loop.invariant.left);
-        asked = rw w.rest-is (next_missed batch pass before after index first rest then w.push_back_reserved-in-NotPlaced.new.self.items is
-            w.push_back_reserved-in-NotPlaced.ensures.items c.loop.invariant.asked
-            (inr (w.in-NotPlaced.field-0, subst (λ (came : Tried). TriedMeans batch index before.view came after.view) w.in-NotPlaced.is tells)));
+        asked = rw w.rest-is (asking_missed batch pass before after index first rest then w.push_back_reserved-in-NotPlaced.new.self.items c.loop.counter
+            c.loop.invariant.asked less is w.push_back_reserved-in-NotPlaced.ensures.items goes
+            (inr (
+              w.in-NotPlaced.field-0,
+              asked_first batch pass before after (NotPlaced w.in-NotPlaced.field-0) index c.loop.invariant.on goes
+                  (subst (λ (came : Tried). TriedMeans batch index before.view came after.view) w.in-NotPlaced.is tells),
+            )));
       }
+    ]
+
+pub returns-then-load-clause-stopped : goal.returns-then-load-clause-stopped
+returns-then-load-clause-stopped g c _ =
+    stopped_before (g.K.BatchData.batch c.args.shared.now.key) c.args.pass c.loop.last c.args.rest.now.items c.loop.rest.items c.loop.counter c.loop.invariant.asked
+
+pub returns-clause-asked : goal.returns-clause-asked
+returns-clause-asked g c _ =
+    let batch = g.K.BatchData.batch c.args.shared.now.key in
+    let first = c.args.rest.now.items in
+    let asked = c.loop.invariant.asked in
+    elim c.loop-test.branch [
+      | else-loop-test w ↦ rw w.rest-is (asked_all batch c.args.pass c.loop.last first c.loop.rest.items c.loop.counter asked
+          (omega (arith, w.loop-test.false, c.len-end.ensures, c.args.rest.now.ok.0)))
+      | then-loop-test+else-load+in_default w ↦ rw w.rest-is (asked_none batch c.args.pass c.loop.last first c.loop.rest.items w.pop_front.new.self.items
+          c.loop.counter asked w.in_default.ensures.items (omega (arith, w.in_default.ensures.cases.0, c.loop.rest.ok.0)))
     ]
