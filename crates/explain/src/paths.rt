@@ -12,7 +12,7 @@ ghost use Rattle.grants.specs.Loss.{narrowed};
 ghost use Rattle.explain.specs.Steps.{IsFirstGiving, IsLastOfPath, giving_in, slot_or};
 ghost use Rattle.explain.specs.declared.paths.Giving.{Giving};
 
-use grants::{Book, Records};
+use grants::{Book, Holder, Records};
 use model_base::{Grant, Grantee, Items, Need, Place, RecordName, User};
 use std::alloc::{AllocError, Global};
 
@@ -61,9 +61,14 @@ fn first_giving_to<V: Records>(
     ensures first { IsFirstGiving (narrowed grantee.now (V.shown view.old)) user need.now end result }
     ensures same { V.shown view.new ≡ V.shown view.old }
 {
+    let holder = &Holder {
+        grantee: *grantee,
+        kind: need.kind,
+        table: need.table,
+    };
     let mut from = 0;
     while from < end {
-        match view.next_to(*grantee, need.kind, need.table, from) {
+        match view.next_to(*holder, from) {
             Some(slot) if slot < end => {
                 if let Some(grant) = giving_in(view, slot, user, need) {
                     return Some(Giving { slot, grant });

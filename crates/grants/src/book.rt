@@ -13,12 +13,12 @@ ghost use Rattle.grants_base.specs.declared.entries.Creation.{Creation};
 
 use crate::cascade::cascade;
 use crate::ended::Ended;
+use crate::view::{BookView, RecordBook, ViewOf};
 use grants_base::{
-    Creation, End, IndexedRecords, NextBy, NextInForce, Records, append_tables, lies_below,
-    records_below, tables_below,
+    Creation, End, Holder, IndexedRecords, append_tables, lies_below, records_below, tables_below,
 };
 use model_base::{
-    Grant, Grantee, HashSeed, Kind, MOST_NAMES, Place, Record, RecordName, Revocation, Table, User,
+    Grant, HashSeed, Kind, MOST_NAMES, Place, Record, RecordName, Revocation, Table, User,
 };
 use std::alloc::{AllocError, Global};
 use std::marker::Model;
@@ -128,24 +128,7 @@ impl Book {
         ensures shows { (owners : List ℕ) (deeds : List Deed) → ShowsBook self.now owners deeds
             → ShowsDeeds (view_of self.now place) owners (deeds_below place deeds) }
     {
-        BookView { book: self, place }
-    }
-
-    /// The records with their indexes.
-    fn indexed(&self) -> &IndexedRecords
-        ensures { result.now ≡ self.now.records }
-    {
-        &self.records
-    }
-
-    /// Whether each grant and each end lies below a place. It looks at the last of each alone. Where it says no, some may not.
-    fn lies_below(&self, place: Place) -> bool
-        ensures { result ≡ true → (slot : ℕ) (entry : Record) → slice_get self.now.records slot ≡ Some entry
-            → lies_below place entry ≡ true }
-    {
-        // A book is sound, as its accessors say, and so its records are in order.
-        let _tables = self.tables();
-        self.records.lie_below(place)
+        ViewOf { book: self, place }
     }
 
     /// What the revocation takes out of force: the ends of these grants, and the names of their records.
@@ -244,95 +227,32 @@ impl Book {
     }
 }
 
-/// A book at a place.
-#[derive(Clone, Copy)]
-pub struct BookView<'a> {
-    book: &'a Book,
-    place: Place,
-}
+impl RecordBook for Book {
+    ghost contents = { λ book. book };
 
-impl Records for BookView<'_> {
-    ghost use Rattle.grants_base.specs.Book.{view_of};
-    ghost use Rattle.grants_base.specs.View.{IsLawful};
-
-    ghost shown = { λ view. view_of view.book.now view.place };
-
-    ghost asked = { λ view. recorded view.book.now.records };
-
-    #[tactic(auto, using(crate::proofs::SeenLaws::lawful_view))]
-    fn at(&self) -> Place {
-        // A book is sound, as its accessors say, and so its view is lawful.
-        let _tables = self.book.tables();
-        self.place
+    fn tables(&self) -> &[Creation] {
+        &self.tables
     }
 
-    fn covers(&self, table: Table) -> bool {
-        (table.0 as usize) < self.book.tables().len()
+    fn records(&self) -> &[Record] {
+        self.records.as_slice()
     }
 
-    fn owner(&self, table: Table) -> User {
-        self.book.tables()[table.0 as usize].owner
+    fn next_to(&self, holder: Holder, from: usize) -> Option<usize> {
+        self.records.next_to(holder, from)
     }
 
-    fn slots(&self) -> usize {
-        self.book.records().len()
+    fn next_by(&self, user: User, kind: Kind, table: Table, from: usize) -> Option<usize> {
+        self.records.next_by(user, kind, table, from)
     }
 
-    fn grant(&mut self, i: usize) -> Option<Grant> {
-        let record = &self.book.records()[i];
-        (record.grant.place < self.place).then_some(record.grant)
-    }
-
-    fn end(&mut self, i: usize) -> Option<Place> {
-        let record = &self.book.records()[i];
-        record
-            .end
-            .filter(|end| record.grant.place < self.place && *end < self.place)
-    }
-
-    fn next_to(
-        &mut self,
-        grantee: Grantee,
-        kind: Kind,
-        table: Table,
-        from: usize,
-    ) -> Option<usize> {
-        self.book.indexed().next_to(grantee, kind, table, from)
-    }
-
-    fn next_by(&mut self, user: User, kind: Kind, table: Table, from: usize) -> Option<usize> {
-        self.book.indexed().next_by(user, kind, table, from)
-    }
-
-    fn next_in_force(
-        &mut self,
-        grantee: Grantee,
-        kind: Kind,
-        table: Table,
-        option: bool,
-        from: usize,
-    ) -> Option<NextInForce> {
-        if !self.book.lies_below(self.place) {
-            return None;
+    fn indexed_below(&self, place: Place) -> Option<&IndexedRecords> {
+        // A book is sound, as its accessors say, and so its records are in order.
+        let _tables = self.tables();
+        if self.records.lie_below(place) {
+            Some(&self.records)
+        } else {
+            None
         }
-        self.book
-            .indexed()
-            .next_in_force(grantee, kind, table, option, from)
-    }
-
-    fn next_in_force_by(
-        &mut self,
-        user: User,
-        grantee: Grantee,
-        kind: Kind,
-        table: Table,
-        from: usize,
-    ) -> Option<NextBy> {
-        if !self.book.lies_below(self.place) {
-            return None;
-        }
-        self.book
-            .indexed()
-            .next_in_force_by(user, grantee, kind, table, from)
     }
 }

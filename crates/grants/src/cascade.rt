@@ -13,7 +13,7 @@ ghost use Rattle.grants.specs.declared.cascade.KindHolderKey.{KindHolderKey};
 ghost use Rattle.grants_base.specs.View.{ShowsDeeds, slot_at};
 
 use crate::ended::Ended;
-use grants_base::{Records, SlotSet};
+use grants_base::{Holder, Records, SlotSet};
 use model_base::{Grant, Grantee, Kind, RecordName, Revocation, User};
 use std::alloc::{AllocError, Global};
 use std::collections::BTreeMap;
@@ -100,10 +100,14 @@ fn next_candidate<V: Records>(
     ensures next { IsNextCandidate revocation.now grantee.now kind true (V.shown view.old) from result }
     ensures same { V.shown view.new ≡ V.shown view.old }
 {
-    let table = revocation.table;
-    match view.next_slot_in_force(*grantee, kind, table, true, from) {
+    let holder = &Holder {
+        grantee: *grantee,
+        kind,
+        table: revocation.table,
+    };
+    match view.next_slot_in_force(*holder, true, from) {
         Some(next) => next.slot,
-        None => view.next_to(*grantee, kind, table, from),
+        None => view.next_to(*holder, from),
     }
 }
 
@@ -119,10 +123,14 @@ fn next_named<V: Records>(
     ensures next { IsNextNamed revocation.now grantee.now kind (V.shown view.old) from result }
     ensures same { V.shown view.new ≡ V.shown view.old }
 {
-    let table = revocation.table;
-    match view.next_in_force_by(revocation.grantor, *grantee, kind, table, from) {
+    let holder = &Holder {
+        grantee: *grantee,
+        kind,
+        table: revocation.table,
+    };
+    match view.next_in_force_by(revocation.grantor, *holder, from) {
         Some(next) => next.slot,
-        None => view.next_to(*grantee, kind, table, from),
+        None => view.next_to(*holder, from),
     }
 }
 

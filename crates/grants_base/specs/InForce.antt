@@ -10,6 +10,7 @@ use Rattle.grants_base.specs.Force.{AreByGrantors, IsForceOf, Privilege, force_o
 use Rattle.grants_base.specs.Index.{IsFirst, is_to}
 use Rattle.grants_base.specs.Sides.{same_side, side_of}
 use Rattle.grants_base.specs.View.{View, entries, slot_at}
+use Rattle.grants_base.specs.declared.force.NextBy.{NextBy}
 use Rattle.grants_base.specs.declared.force.NextInForce.{NextInForce}
 use Rattle.grants_base.specs.declared.in_force.InForceIndex.{InForceIndex}
 use Rattle.grants_base.specs.declared.index.HolderKey.{HolderKey}
@@ -44,3 +45,7 @@ pub record IsNextInForce (passes : Grant → Bool) (entries : List Record) (from
 pub record ShowsNextInForce (passes : Grant → Bool) (view : View) (from : ℕ) (next : NextInForce) : Type 0 where
   pub slot : IsFirst (λ k. is_in_force passes (slot_at view k)) from next.slot
   pub lost : next.lost ≡ greatest_end passes (entries view)
+
+-- the next slot of a view with a grant in force that passes
+abbrev pub ShowsNextSlot : (Grant → Bool) → View → ℕ → NextBy → Type 0
+ShowsNextSlot passes view from next = IsFirst (λ k. is_in_force passes (slot_at view k)) from next.slot

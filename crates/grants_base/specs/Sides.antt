@@ -18,9 +18,13 @@ abbrev pub holder_code : Grantee → ℕ
 holder_code (User user) = user + 1
 holder_code Public = 0
 
--- what is looked up for a grantee, a kind and a table; a grantor is looked up as the user that it is
+-- what is looked up for a grantee, a kind and a table
 abbrev pub side_of : Grantee → Kind → ℕ → HolderKey
 side_of holder kind table = record { holder = holder_code holder; table = table; kind = kind_code kind }
+
+-- and for a grantor, which is looked up as the user that it is
+abbrev pub side_by : ℕ → Kind → ℕ → HolderKey
+side_by user kind table = side_of (User user) kind table
 
 -- the side of a grant's grantee
 abbrev pub to_side : Grant → HolderKey
@@ -28,7 +32,7 @@ to_side grant = side_of grant.grantee grant.kind grant.table
 
 -- and that of its grantor
 abbrev pub by_side : Grant → HolderKey
-by_side grant = side_of (User grant.grantor) grant.kind grant.table
+by_side grant = side_by grant.grantor grant.kind grant.table
 
 -- whether the grant is by this one, of this kind on this table; PUBLIC makes no grant
 abbrev pub is_made_by : Grantee → Kind → ℕ → Grant → Bool

@@ -8,7 +8,8 @@ ghost use Rattle.grants_base.specs.Index.{is_one_of, IsFirst};
 ghost use Rattle.grants_base.specs.Sides.{AreAscending, IsEmpty, IsPopped, IsPushed, IsSame, holder_code, side_of, side_word, slots_under, to_side};
 ghost use Rattle.model_base.specs.Ranks.{kind_code};
 
-use model_base::{Grant, Grantee, HashSeed, Kind, Table};
+use crate::records::Holder;
+use model_base::{Grant, Grantee, HashSeed, Table};
 use std::alloc::{AllocError, Global};
 use std::collections::HashMap;
 use std::hash::{Hash, Hasher};
@@ -44,23 +45,23 @@ impl Hash for HolderKey {
 }
 
 /// The code of a grantee: 0 for PUBLIC, else one more than the user's number.
-pub fn holder_code(holder: Grantee) -> u64
-    ensures { result ≡ holder_code holder }
+pub fn holder_code(grantee: Grantee) -> u64
+    ensures { result ≡ holder_code grantee }
 {
-    match holder {
+    match grantee {
         Grantee::User(user) => user.0 as u64 + 1,
         Grantee::Public => 0,
     }
 }
 
-/// What is looked up for a grantee, a kind and a table. A grantor is looked up as the user that it is.
-pub(crate) fn side_of(holder: Grantee, kind: Kind, table: Table) -> HolderKey
-    ensures { result ≡ side_of holder kind table }
+/// What is looked up for a grantee, a kind and a table.
+pub(crate) fn side_of(holder: Holder) -> HolderKey
+    ensures { result ≡ side_of holder.grantee holder.kind holder.table }
 {
     HolderKey {
-        holder: holder_code(holder),
-        table,
-        kind: kind.code(),
+        holder: holder_code(holder.grantee),
+        table: holder.table,
+        kind: holder.kind.code(),
     }
 }
 
@@ -68,7 +69,11 @@ pub(crate) fn side_of(holder: Grantee, kind: Kind, table: Table) -> HolderKey
 pub(crate) fn to_side(grant: &Grant) -> HolderKey
     ensures { result ≡ to_side grant.now }
 {
-    side_of(grant.grantee, grant.kind, grant.table)
+    side_of(Holder {
+        grantee: grant.grantee,
+        kind: grant.kind,
+        table: grant.table,
+    })
 }
 
 /// The slot of an index among these, if there is one.

@@ -9,7 +9,7 @@ ghost use Rattle.model_base.specs.Laws.{IsRising};
 ghost use Rattle.model_base.specs.declared.deed.Record.{Record};
 ghost use Rattle.grants_base.specs.Index.{IsFirst, IsNext, is_by, is_to};
 ghost use Rattle.grants_base.specs.Marks.{AreInOrder, HasEnds};
-ghost use Rattle.grants_base.specs.Sides.{IsPushed, IsSame, by_side, to_side};
+ghost use Rattle.grants_base.specs.Sides.{IsPushed, IsSame, by_side, side_by, to_side};
 ghost use Rattle.grants_base.specs.declared.entries.End.{End};
 
 use crate::endings::{Ending, note, note_by_place, pop_from, reaches};
@@ -17,6 +17,7 @@ use crate::entries::{End, reopen_slot, set_end};
 use crate::force::{NextBy, NextInForce};
 use crate::in_force::InForceIndex;
 use crate::index::{HolderKey, Index, side_of, to_side};
+use crate::records::Holder;
 use model_base::{Grant, Grantee, HashSeed, Kind, Place, Record, Table, User};
 use std::alloc::{AllocError, Global};
 use std::marker::Model;
@@ -44,11 +45,22 @@ impl Model for IndexedRecords {
     ghost invariant = { λ indexed. AreIndexed indexed.records.items indexed.to indexed.by indexed.endings.items indexed.in_force };
 }
 
+/// What is looked up for a grantor, a kind and a table: a grantor is looked up as the user that it is.
+fn side_by(grantor: User, kind: Kind, table: Table) -> HolderKey
+    ensures { result ≡ side_by grantor kind table }
+{
+    side_of(Holder {
+        grantee: Grantee::User(grantor),
+        kind,
+        table,
+    })
+}
+
 /// The side of a grant's grantor.
 fn by_side(grant: &Grant) -> HolderKey
     ensures { result ≡ by_side grant.now }
 {
-    side_of(Grantee::User(grant.grantor), grant.kind, grant.table)
+    side_by(grant.grantor, grant.kind, grant.table)
 }
 
 /// Adds the slot of a grant last under its grantee and its grantor, or under neither: then memory ran out.
@@ -251,38 +263,24 @@ impl IndexedRecords {
         }
     }
 
-    /// The least slot at or above this one of a grant in force to the grantee, of the kind on the table, and the last end of such a
-    /// grant; of grants with the option, where it is asked for. It takes a time that grows with the logarithm of the number of those
+    /// The least slot at or above this one of a grant in force to the holder's grantee, of its kind on its table, and the last end of such
+    /// a grant; of grants with the option, where it is asked for. It takes a time that grows with the logarithm of the number of those
     /// in force. None where that isn't known: after records or ends were taken back, or where memory ran out.
-    pub fn next_in_force(
-        &self,
-        grantee: Grantee,
-        kind: Kind,
-        table: Table,
-        option: bool,
-        from: usize,
-    ) -> Option<NextInForce>
-        ensures { IfSome result (λ next. IsNextInForce (gives_to grantee kind table option) self.now from next) }
+    pub fn next_in_force(&self, holder: Holder, option: bool, from: usize) -> Option<NextInForce>
+        ensures { IfSome result (λ next.
+            IsNextInForce (gives_to holder.grantee holder.kind holder.table option) self.now from next) }
     {
-        self.in_force
-            .next(&side_of(grantee, kind, table), option, from)
+        self.in_force.next(&side_of(holder), option, from)
     }
 
-    /// The least slot at or above this one of a grant in force by the user to the grantee, of the kind on the table. It takes a time that
-    /// grows with the logarithm of the number of those in force to the grantee. None where that isn't known, as in `next_in_force`.
-    pub fn next_in_force_by(
-        &self,
-        user: User,
-        grantee: Grantee,
-        kind: Kind,
-        table: Table,
-        from: usize,
-    ) -> Option<NextBy>
-        ensures { IfSome result (λ next.
-            IsFirst (λ k. is_in_force (gives_by user grantee kind table) (slice_get self.now k)) from next.slot) }
+    /// The least slot at or above this one of a grant in force by the user to the holder's grantee, of its kind on its table. It takes a
+    /// time that grows with the logarithm of the number of those in force to the grantee. None where that isn't known, as in
+    /// `next_in_force`.
+    pub fn next_in_force_by(&self, user: User, holder: Holder, from: usize) -> Option<NextBy>
+        ensures { IfSome result (λ next. IsFirst
+            (λ k. is_in_force (gives_by user holder.grantee holder.kind holder.table) (slice_get self.now k)) from next.slot) }
     {
-        self.in_force
-            .next_by(&side_of(grantee, kind, table), user, from)
+        self.in_force.next_by(&side_of(holder), user, from)
     }
 
     /// Whether each grant and each end of the records, which are in order, lies below a place. It looks at the last of each alone. Where it
@@ -294,18 +292,17 @@ impl IndexedRecords {
         made_below(&self.records, place) && !reaches(&self.endings, place)
     }
 
-    /// The least slot at or above this one whose grant is to the grantee, of the kind on the table.
-    pub fn next_to(&self, grantee: Grantee, kind: Kind, table: Table, from: usize) -> Option<usize>
-        ensures { IsNext (is_to grantee kind table) (recorded self.now) from result }
+    /// The least slot at or above this one whose grant is to the holder's grantee, of its kind on its table.
+    pub fn next_to(&self, holder: Holder, from: usize) -> Option<usize>
+        ensures { IsNext (is_to holder.grantee holder.kind holder.table) (recorded self.now) from result }
     {
-        self.to.next(&side_of(grantee, kind, table), from)
+        self.to.next(&side_of(holder), from)
     }
 
     /// The least slot at or above this one whose grant is by the user, of the kind on the table.
     pub fn next_by(&self, user: User, kind: Kind, table: Table, from: usize) -> Option<usize>
         ensures { IsNext (is_by user kind table) (recorded self.now) from result }
     {
-        self.by
-            .next(&side_of(Grantee::User(user), kind, table), from)
+        self.by.next(&side_by(user, kind, table), from)
     }
 }

@@ -4,7 +4,8 @@ ghost use Rattle.std.specs.Prelude.{◌≡◌, ◌<◌, ◌^◌, ◌++◌, ◌�
 ghost use Rattle.grants_base.specs.Index.{IsNext, is_by, is_to};
 
 use crate::indexed::IndexedRecords;
-use model_base::{Grant, Grantee, HashSeed, Kind, Table, User};
+use crate::records::Holder;
+use model_base::{Grant, HashSeed, Kind, Table, User};
 use std::alloc::{AllocError, Global};
 use std::marker::Model;
 
@@ -66,12 +67,12 @@ impl IndexedGrants {
         self.records.as_slice()[slot].grant
     }
 
-    /// The least slot at or above this one whose grant is to the grantee, of the kind on the table. It doesn't allocate, and takes a time
-    /// that grows with the logarithm of the number of such grants.
-    pub fn next_to(&self, grantee: Grantee, kind: Kind, table: Table, from: usize) -> Option<usize>
-        ensures { IsNext (is_to grantee kind table) self.now from result }
+    /// The least slot at or above this one whose grant is to the holder's grantee, of its kind on its table. It doesn't allocate, and takes
+    /// a time that grows with the logarithm of the number of such grants.
+    pub fn next_to(&self, holder: Holder, from: usize) -> Option<usize>
+        ensures { IsNext (is_to holder.grantee holder.kind holder.table) self.now from result }
     {
-        self.records.next_to(grantee, kind, table, from)
+        self.records.next_to(holder, from)
     }
 
     /// The least slot at or above this one whose grant is by the user, of the kind on the table. It doesn't allocate, and takes a time that

@@ -26,5 +26,5 @@ pub use force::{NextBy, NextInForce, later};
 pub use index::holder_code;
 pub use indexed::IndexedRecords;
 pub use indexed_grants::IndexedGrants;
-pub use records::{Records, is_by, is_to};
+pub use records::{Holder, Records, is_by, is_to};
 pub use slot_set::SlotSet;

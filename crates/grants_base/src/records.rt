@@ -2,13 +2,21 @@
 
 ghost use Rattle.std.specs.Prelude.{◌≡◌, ◌<◌, List, Some, IfSome, IsSome, is_some, length};
 ghost use Rattle.model_base.specs.declared.deed.Grant.{Grant};
-ghost use Rattle.grants_base.specs.Force.{gives_by, gives_to, is_in_force};
-ghost use Rattle.grants_base.specs.InForce.{ShowsNextInForce};
-ghost use Rattle.grants_base.specs.Index.{AreAsked, IsFirst, IsNext, is_about, is_by, is_to};
+ghost use Rattle.grants_base.specs.Force.{gives_by, gives_to};
+ghost use Rattle.grants_base.specs.InForce.{ShowsNextInForce, ShowsNextSlot};
+ghost use Rattle.grants_base.specs.Index.{AreAsked, IsNext, is_about, is_by, is_to};
 ghost use Rattle.grants_base.specs.View.{View, IsLawful, end_in, grant_in, slot_at};
 
 use crate::force::{NextBy, NextInForce};
 use model_base::{Grant, Grantee, Kind, Place, Table, User};
+
+/// A grantee, with a kind on a table.
+#[derive(Clone, Copy)]
+pub struct Holder {
+    pub grantee: Grantee,
+    pub kind: Kind,
+    pub table: Table,
+}
 
 /// The records of grants as they are at a place: those of the grants below it, on the tables that the view covers, each with its end if
 /// that lies below. A slot has one record or none. A reader of words that others fill makes steps when it reads, and so a read may change
@@ -51,10 +59,10 @@ pub trait Records {
         ensures same { shown self.new ≡ shown self.old }
         ensures still { asked self.new ≡ asked self.old };
 
-    /// The least slot at or above this one whose grant, made or not, is to this user or to PUBLIC, as the grantee says, of this kind on
-    /// this table, in force or not. It doesn't allocate.
-    fn next_to(&mut self, grantee: Grantee, kind: Kind, table: Table, from: usize) -> Option<usize>
-        ensures next { IsNext (is_to grantee kind table) (asked self.old) from result }
+    /// The least slot at or above this one whose grant, made or not, is to the holder's grantee, a user or PUBLIC, of its kind on its
+    /// table, in force or not. It doesn't allocate.
+    fn next_to(&mut self, holder: Holder, from: usize) -> Option<usize>
+        ensures next { IsNext (is_to holder.grantee holder.kind holder.table) (asked self.old) from result }
         ensures asked { AreAsked (shown self.old) (asked self.old) }
         ensures same { shown self.new ≡ shown self.old }
         ensures still { asked self.new ≡ asked self.old };
@@ -67,62 +75,42 @@ pub trait Records {
         ensures same { shown self.new ≡ shown self.old }
         ensures still { asked self.new ≡ asked self.old };
 
-    /// The least slot at or above this one of a grant in force to this user or to PUBLIC, of this kind on this table, and the last end of
-    /// such a grant; of grants with the option, where it is asked for. None where that isn't known unless one goes through the slots. It
+    /// The least slot at or above this one of a grant in force to the holder's grantee, of its kind on its table, and the last end of such
+    /// a grant; of grants with the option, where it is asked for. None where that isn't known unless one goes through the slots. It
     /// doesn't allocate.
-    fn next_in_force(
-        &mut self,
-        grantee: Grantee,
-        kind: Kind,
-        table: Table,
-        option: bool,
-        from: usize,
-    ) -> Option<NextInForce>
-        ensures next { IfSome result (λ next. ShowsNextInForce (gives_to grantee kind table option) (shown self.old) from next) }
+    fn next_in_force(&mut self, holder: Holder, option: bool, from: usize) -> Option<NextInForce>
+        ensures next { IfSome result (λ next.
+            ShowsNextInForce (gives_to holder.grantee holder.kind holder.table option) (shown self.old) from next) }
         ensures same { shown self.new ≡ shown self.old }
         ensures still { asked self.new ≡ asked self.old }
     {
-        let _asked = (grantee, kind, table, option, from);
+        let _asked = (holder, option, from);
         None
     }
 
     /// The slot that `next_in_force` finds, without the last end. None where that isn't known unless one goes through the slots. It doesn't
     /// allocate.
-    fn next_slot_in_force(
-        &mut self,
-        grantee: Grantee,
-        kind: Kind,
-        table: Table,
-        option: bool,
-        from: usize,
-    ) -> Option<NextBy>
+    fn next_slot_in_force(&mut self, holder: Holder, option: bool, from: usize) -> Option<NextBy>
         ensures next { IfSome result (λ next.
-            IsFirst (λ k. is_in_force (gives_to grantee kind table option) (slot_at (shown self.old) k)) from next.slot) }
+            ShowsNextSlot (gives_to holder.grantee holder.kind holder.table option) (shown self.old) from next) }
         ensures same { shown self.new ≡ shown self.old }
         ensures still { asked self.new ≡ asked self.old }
     {
-        match self.next_in_force(grantee, kind, table, option, from) {
+        match self.next_in_force(holder, option, from) {
             Some(next) => Some(NextBy { slot: next.slot }),
             None => None,
         }
     }
 
-    /// The least slot at or above this one of a grant in force by this user to a user or to PUBLIC, as the grantee says, of this kind on
-    /// this table. None where that isn't known unless one goes through the slots. It doesn't allocate.
-    fn next_in_force_by(
-        &mut self,
-        user: User,
-        grantee: Grantee,
-        kind: Kind,
-        table: Table,
-        from: usize,
-    ) -> Option<NextBy>
+    /// The least slot at or above this one of a grant in force by this user to the holder's grantee, of its kind on its table. None where
+    /// that isn't known unless one goes through the slots. It doesn't allocate.
+    fn next_in_force_by(&mut self, user: User, holder: Holder, from: usize) -> Option<NextBy>
         ensures next { IfSome result (λ next.
-            IsFirst (λ k. is_in_force (gives_by user grantee kind table) (slot_at (shown self.old) k)) from next.slot) }
+            ShowsNextSlot (gives_by user holder.grantee holder.kind holder.table) (shown self.old) from next) }
         ensures same { shown self.new ≡ shown self.old }
         ensures still { asked self.new ≡ asked self.old }
     {
-        let _asked = (user, grantee, kind, table, from);
+        let _asked = (user, holder, from);
         None
     }
 }
@@ -134,11 +122,11 @@ fn is_about(grant: &Grant, kind: Kind, table: Table) -> bool
     kind == grant.kind && table == grant.table
 }
 
-/// Whether the grant is to this grantee, of this kind on this table.
-pub fn is_to(grant: &Grant, grantee: Grantee, kind: Kind, table: Table) -> bool
-    ensures { result ≡ is_to grantee kind table grant.now }
+/// Whether the grant is to the holder's grantee, of its kind on its table.
+pub fn is_to(grant: &Grant, holder: Holder) -> bool
+    ensures { result ≡ is_to holder.grantee holder.kind holder.table grant.now }
 {
-    grant.grantee.is_same(grantee) && is_about(grant, kind, table)
+    grant.grantee.is_same(holder.grantee) && is_about(grant, holder.kind, holder.table)
 }
 
 /// Whether the grant is by this user, of this kind on this table.

@@ -6,5 +6,5 @@ use Rattle.grants.proofs.holding.has_in_force.Goals as goal
 
 pub returns-in-Some-clause-some : goal.returns-in-Some-clause-some
 returns-in-Some-clause-some g c found =
-    one_found (λ k. is_in_force (gives_to c.args.grantee.now c.args.kind c.args.table c.args.option) (slot_at (g.V.Records.shown c.args.view.now) k)) 0
+    one_found (λ k. is_in_force (gives_to c.args.holder.now.grantee c.args.holder.now.kind c.args.holder.now.table c.args.option) (slot_at (g.V.Records.shown c.args.view.now) k)) 0
     c.in-Some.next.slot c.in-Some.ensures.next (sym c.is_some.ensures ∙ found)

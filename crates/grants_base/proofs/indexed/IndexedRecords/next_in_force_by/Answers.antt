@@ -15,12 +15,12 @@ use Rattle.grants_base.proofs.indexed.IndexedRecords.next_in_force_by.Goals as g
 pub returns : goal.returns
 returns c =
     let user = c.args.user in
-    let passes = gives_by user c.args.grantee c.args.kind c.args.table in
+    let passes = gives_by user c.args.holder.grantee c.args.holder.kind c.args.holder.table in
     let index = c.self.inside.in_force in
     next_by_told c.next_by.result (index.is_whole ≡ true) _ (λ (next : NextBy). IsFirst (λ k. is_in_force passes (slice_get c.args.self.now k)) c.args.from next.slot)
     c.next_by.ensures.whole c.next_by.ensures.slot
     (λ next whole slot.
-    let kept = (c.self.invariant.kept whole c.args.grantee c.args.kind c.args.table).by user in
+    let kept = (c.self.invariant.kept whole c.args.holder.grantee c.args.holder.kind c.args.holder.table).by user in
     let found = subst (λ (side : HolderKey). IsFirst (has_by (privilege_under index side).by user) c.args.from next.slot) c.side_of.ensures slot in
     subst (λ (es : List Record). IsFirst (λ k. is_in_force passes (slice_get es k)) c.args.from next.slot) c.self.view_is
-    (first_as (has_by (privilege_under index (side_of c.args.grantee c.args.kind c.args.table)).by user) (λ k. is_in_force passes (slice_get c.self.inside.records.items k)) kept c.args.from next.slot found))
+    (first_as (has_by (privilege_under index (side_of c.args.holder.grantee c.args.holder.kind c.args.holder.table)).by user) (λ k. is_in_force passes (slice_get c.self.inside.records.items k)) kept c.args.from next.slot found))

@@ -11,10 +11,10 @@ use Rattle.grants_base.proofs.indexed.IndexedRecords.next_to.Goals as goal
 pub next-requires : goal.next-requires
 next-requires c =
     subst (λ (side : HolderKey). AreAscending (slots_under c.self.inside.to side)) (sym c.side_of.ensures)
-    (slots_rise is_to c.self.inside.to c.self.inside.records.items c.args.grantee c.args.kind c.args.table c.self.invariant.grantees)
+    (slots_rise is_to c.self.inside.to c.self.inside.records.items c.args.holder.grantee c.args.holder.kind c.args.holder.table c.self.invariant.grantees)
 
 pub returns : goal.returns
 returns c =
     let found = subst (λ (side : HolderKey). IsFirst (is_one_of (slots_under c.self.inside.to side)) c.args.from c.next.result) c.side_of.ensures c.next.ensures in
-    subst (λ (entries : List Record). IsNext (is_to c.args.grantee c.args.kind c.args.table) (recorded entries) c.args.from c.next.result) c.self.view_is
-    (next_found is_to c.self.inside.to c.self.inside.records.items c.args.grantee c.args.kind c.args.table c.self.invariant.grantees c.args.from c.next.result found)
+    subst (λ (entries : List Record). IsNext (is_to c.args.holder.grantee c.args.holder.kind c.args.holder.table) (recorded entries) c.args.from c.next.result) c.self.view_is
+    (next_found is_to c.self.inside.to c.self.inside.records.items c.args.holder.grantee c.args.holder.kind c.args.holder.table c.self.invariant.grantees c.args.from c.next.result found)
