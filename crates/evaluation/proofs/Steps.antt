@@ -203,15 +203,15 @@ module _ (ranged : LogRange) (of_log : IsOfLog (range_of ranged)) (index : ℕ) 
 
   module _ (sought : Sought) where
     abbrev asks : Grant → Bool
-    asks = is_to sought.grantee sought.kind sought.table
+    asks = is_to sought.holder.grantee sought.holder.kind sought.holder.table
 
     -- such a grant is on the table that is looked for
-    pub sought-on : is_listed (batch.tables index) sought.table ≡ true → (grant : Grant) → is_sought sought grant ≡ true
+    pub sought-on : is_listed (batch.tables index) sought.holder.table ≡ true → (grant : Grant) → is_sought sought grant ≡ true
         → is_listed (batch.tables index) grant.table ≡ true
     sought-on listed grant is =
         let to = (and_parts (asks grant) (is_wanted sought.wanted grant) is).0 in
-        let about = (and_parts (same_grantee grant.grantee sought.grantee) (is_about sought.kind sought.table grant) to).1 in
-        let same : sought.table ≡ grant.table = eqb-true sought.table grant.table (and_parts (same_kind sought.kind grant.kind) (eqb sought.table grant.table) about).1 in
+        let about = (and_parts (same_grantee grant.grantee sought.holder.grantee) (is_about sought.holder.kind sought.holder.table grant) to).1 in
+        let same : sought.holder.table ≡ grant.table = eqb-true sought.holder.table grant.table (and_parts (same_kind sought.holder.kind grant.kind) (eqb sought.holder.table grant.table) about).1 in
         subst (λ table. is_listed (batch.tables index) table ≡ true) same listed
 
     -- a slot that shows such a grant asks for one

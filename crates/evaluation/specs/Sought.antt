@@ -14,9 +14,9 @@ abbrev pub is_wanted : Wanted → Grant → Bool
 is_wanted (Giving option) grant = grant.option || not option
 is_wanted (By user) grant = grant.grantor == user
 
--- whether the grant is one of these, to the grantee, of the kind on the table
+-- whether the grant is one of these, to the holder's grantee, of the kind on the table
 abbrev pub is_sought : Sought → Grant → Bool
-is_sought sought grant = is_to sought.grantee sought.kind sought.table grant && is_wanted sought.wanted grant
+is_sought sought grant = is_to sought.holder.grantee sought.holder.kind sought.holder.table grant && is_wanted sought.wanted grant
 
 -- the end of a slot's record, if there is one and its grant passes
 abbrev pub slot_end : (Grant → Bool) → Option Record → Option ℕ

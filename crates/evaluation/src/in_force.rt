@@ -3,37 +3,59 @@
 
 ghost use Rattle.std.specs.Prelude.{◌≡◌, ◌<◌, ◌≤◌, ◌&&◌, nat_lt, true, IfSome, length, slice_get};
 ghost use Rattle.grants_base.specs.Force.{greatest_end, is_in_force};
+ghost use Rattle.grants_base.specs.InForce.{ShowsNextSlot};
 ghost use Rattle.grants_base.specs.Index.{IsFirst};
 ghost use Rattle.grants_base.specs.View.{entries, slot_at};
 ghost use Rattle.bohm_core_base.specs.Batch.{batch_slots, is_listed};
 ghost use Rattle.log_batch.specs.Earlier.{earlier_count, records_before};
 ghost use Rattle.log_batch.specs.Supplied.{batch_of};
 ghost use Rattle.evaluation.specs.Seen.{shown_to};
+ghost use Rattle.evaluation.specs.declared.in_force.Wanted.TheVariants.{By, Giving};
 ghost use Rattle.evaluation.specs.Sought.{IsLastEnd, is_sought, is_wanted, open_grant, slot_end, sought_end};
 
 use crate::read_source::ReadSource;
 use crate::records::record_shown;
-use grants::{NextBy, is_to};
+use grants::{Holder, NextBy, is_to};
 use grants_base::later;
 use log_batch::LogBatch;
-use model_base::{Grant, Grantee, Kind, Place, Table, User};
+use model_base::{Grant, Place, User};
 
-/// Which grants to a grantee are looked for.
+/// Which grants to a holder are looked for.
 #[derive(Clone, Copy)]
-pub(crate) enum Wanted {
+enum Wanted {
     /// All, or those with the option alone.
     Giving(bool),
     /// Those by a user.
     By(User),
 }
 
-/// The grants that are looked for: such grants to a grantee, of a kind on a table.
+/// The grants that are looked for: such grants to a holder.
 #[derive(Clone, Copy)]
 pub(crate) struct Sought {
-    pub(crate) grantee: Grantee,
-    pub(crate) kind: Kind,
-    pub(crate) table: Table,
-    pub(crate) wanted: Wanted,
+    pub(crate) holder: Holder,
+    wanted: Wanted,
+}
+
+impl Sought {
+    /// The grants to a holder: all, or those with the option alone.
+    pub(crate) fn giving(holder: Holder, option: bool) -> Self
+        ensures { result ≡ record { holder = holder; wanted = Giving option } }
+    {
+        Sought {
+            holder,
+            wanted: Wanted::Giving(option),
+        }
+    }
+
+    /// The grants by a user to a holder.
+    pub(crate) fn by(user: User, holder: Holder) -> Self
+        ensures { result ≡ record { holder = holder; wanted = By user } }
+    {
+        Sought {
+            holder,
+            wanted: Wanted::By(user),
+        }
+    }
 }
 
 /// The last end of a grant, if one has ended.
@@ -56,7 +78,7 @@ fn is_wanted(wanted: &Wanted, grant: &Grant) -> bool
 fn is_sought(sought: &Sought, grant: &Grant) -> bool
     ensures { result ≡ is_sought sought.now grant.now }
 {
-    is_to(grant, sought.grantee, sought.kind, sought.table) && is_wanted(&sought.wanted, grant)
+    is_to(grant, sought.holder) && is_wanted(&sought.wanted, grant)
 }
 
 /// Whether there is a grant, which is one of these and has no end.
@@ -84,26 +106,24 @@ fn next_at_start(batch: &LogBatch, sought: &Sought, from: usize) -> Option<NextB
     ensures { IfSome result (λ next.
         IsFirst (λ k. is_in_force (is_sought sought.now) (slice_get (records_before (batch_of batch.now)) k)) from next.slot) }
 {
-    let (grantee, kind, table) = (sought.grantee, sought.kind, sought.table);
     match &sought.wanted {
         Wanted::Giving(option) => {
-            match batch.earlier_in_force(grantee, kind, table, *option, from) {
+            match batch.earlier_in_force(sought.holder, *option, from) {
                 Some(next) => Some(NextBy { slot: next.slot }),
                 None => None,
             }
         }
-        Wanted::By(user) => batch.earlier_in_force_by(*user, grantee, kind, table, from),
+        Wanted::By(user) => batch.earlier_in_force_by(*user, sought.holder, from),
     }
 }
 
 /// The last end before the batch of such a grant, of those that give something. None where that isn't known.
-pub(crate) fn lost_at_start(batch: &LogBatch, sought: &Sought) -> Option<LastEnd>
+fn lost_at_start(batch: &LogBatch, sought: &Sought) -> Option<LastEnd>
     ensures { IfSome result (λ last. last.place ≡ greatest_end (is_sought sought.now) (records_before (batch_of batch.now))) }
 {
-    let (grantee, kind, table) = (sought.grantee, sought.kind, sought.table);
     match &sought.wanted {
         Wanted::Giving(option) => {
-            match batch.earlier_in_force(grantee, kind, table, *option, 0) {
+            match batch.earlier_in_force(sought.holder, *option, 0) {
                 Some(next) => Some(LastEnd { place: next.lost }),
                 None => None,
             }
@@ -145,7 +165,7 @@ fn next_earlier<T: ReadSource>(
 }
 
 /// The least slot at or above this one, which is none of a grant from before the batch, of such a grant that the reader is shown in
-/// force. It goes through the batch's own grants of this kind on this table to the grantee, up to it.
+/// force. It goes through the batch's own grants to the holder up to it.
 fn next_own<T: ReadSource>(
     batch: &LogBatch,
     source: &mut T,
@@ -162,7 +182,7 @@ fn next_own<T: ReadSource>(
     let count = batch.slot_count();
     let mut from = start;
     while from < count {
-        let Some(slot) = batch.next_own_to(&sought.grantee, sought.kind, sought.table, from) else {
+        let Some(slot) = batch.next_own_to(&sought.holder, from) else {
             return None;
         };
         let (grant, end) = record_shown(batch, source, slot);
@@ -184,8 +204,7 @@ pub(crate) fn next_shown<T: ReadSource>(
 ) -> Option<NextBy>
     requires { (T.as_reader source.old).batch ≡ batch_of batch.now }
     ensures next { IfSome result (λ next.
-        IsFirst (λ k. is_in_force (is_sought sought.now) (slot_at (shown_to batch.now (T.as_reader source.old)) k))
-        from next.slot) }
+        ShowsNextSlot (is_sought sought.now) (shown_to batch.now (T.as_reader source.old)) from next) }
     ensures same { (T.as_reader source.new ≡ T.as_reader source.old) × (T.work source.new ≡ T.work source.old) }
 {
     let _log = batch.log();
@@ -200,23 +219,20 @@ pub(crate) fn next_shown<T: ReadSource>(
     Some(NextBy { slot })
 }
 
-/// The last end of such a grant from before the batch that the reader is shown, where that before the batch is known. It goes
-/// through those in force as the batch began. None where these aren't known.
-fn last_earlier<T: ReadSource>(
-    batch: &LogBatch,
-    source: &mut T,
-    sought: &Sought,
-    before: Option<Place>,
-) -> Option<LastEnd>
+/// The last end of such a grant from before the batch that the reader is shown. It goes through those in force as the batch began. None
+/// where these, or the last end before the batch, aren't known.
+fn last_earlier<T: ReadSource>(batch: &LogBatch, source: &mut T, sought: &Sought) -> Option<LastEnd>
     requires batch { (T.as_reader source.old).batch ≡ batch_of batch.now }
-    requires listed { is_listed ((batch_of batch.now).tables (T.as_reader source.old).index) sought.now.table ≡ true }
-    requires before { before ≡ greatest_end (is_sought sought.now) (records_before (batch_of batch.now)) }
+    requires listed { is_listed ((batch_of batch.now).tables (T.as_reader source.old).index) sought.now.holder.table ≡ true }
     ensures last { IfSome result (λ last. IsLastEnd (is_sought sought.now) (shown_to batch.now (T.as_reader source.old))
         (λ k. nat_lt k (earlier_count (batch_of batch.now))) last.place) }
     ensures same { (T.as_reader source.new ≡ T.as_reader source.old) × (T.work source.new ≡ T.work source.old) }
 {
+    let Some(before) = lost_at_start(batch, sought) else {
+        return None;
+    };
     let count = batch.earlier_count();
-    let mut place = before;
+    let mut place = before.place;
     let mut from = 0;
     while from < count {
         let Some(next) = next_at_start(batch, sought, from) else {
@@ -232,27 +248,25 @@ fn last_earlier<T: ReadSource>(
     Some(LastEnd { place })
 }
 
-/// The last end of such a grant that the reader is shown, where that of the slots below one is known, with all those of grants
-/// from before the batch. It goes through the batch's own others of this kind on this table to the grantee.
+/// The last end of such a grant that the reader is shown, where that of those from before the batch is known. It goes through the
+/// batch's own grants to the holder.
 fn last_own<T: ReadSource>(
     batch: &LogBatch,
     source: &mut T,
     sought: &Sought,
     before: LastEnd,
-    start: usize,
 ) -> Option<Place>
     requires batch { (T.as_reader source.old).batch ≡ batch_of batch.now }
-    requires own { earlier_count (batch_of batch.now) ≤ start }
     requires before { IsLastEnd (is_sought sought.now) (shown_to batch.now (T.as_reader source.old))
-        (λ k. nat_lt k start) before.place }
+        (λ k. nat_lt k (earlier_count (batch_of batch.now))) before.place }
     ensures last { result ≡ greatest_end (is_sought sought.now) (entries (shown_to batch.now (T.as_reader source.old))) }
     ensures same { (T.as_reader source.new ≡ T.as_reader source.old) × (T.work source.new ≡ T.work source.old) }
 {
     let count = batch.slot_count();
     let mut place = before.place;
-    let mut from = start;
+    let mut from = batch.earlier_count();
     while from < count {
-        let Some(slot) = batch.next_own_to(&sought.grantee, sought.kind, sought.table, from) else {
+        let Some(slot) = batch.next_own_to(&sought.holder, from) else {
             return place;
         };
         let (grant, end) = record_shown(batch, source, slot);
@@ -262,24 +276,22 @@ fn last_own<T: ReadSource>(
     place
 }
 
-/// The last end of such a grant that the reader is shown, where that before the batch is known. It goes through those in force as
-/// the batch began and then through the batch's own. None where the former aren't known.
+/// The last end of such a grant that the reader is shown. It goes through those in force as the batch began and then through the
+/// batch's own. None where `last_earlier` returns none.
 pub(crate) fn last_shown<T: ReadSource>(
     batch: &LogBatch,
     source: &mut T,
     sought: &Sought,
-    before: Option<Place>,
 ) -> Option<LastEnd>
     requires batch { (T.as_reader source.old).batch ≡ batch_of batch.now }
-    requires listed { is_listed ((batch_of batch.now).tables (T.as_reader source.old).index) sought.now.table ≡ true }
-    requires before { before ≡ greatest_end (is_sought sought.now) (records_before (batch_of batch.now)) }
+    requires listed { is_listed ((batch_of batch.now).tables (T.as_reader source.old).index) sought.now.holder.table ≡ true }
     ensures last { IfSome result (λ last.
         last.place ≡ greatest_end (is_sought sought.now) (entries (shown_to batch.now (T.as_reader source.old)))) }
     ensures same { (T.as_reader source.new ≡ T.as_reader source.old) × (T.work source.new ≡ T.work source.old) }
 {
-    let Some(last) = last_earlier(batch, source, sought, before) else {
+    let Some(earlier) = last_earlier(batch, source, sought) else {
         return None;
     };
-    let place = last_own(batch, source, sought, last, batch.earlier_count());
+    let place = last_own(batch, source, sought, earlier);
     Some(LastEnd { place })
 }

@@ -10,12 +10,12 @@ ghost use Rattle.evaluation.specs.Seen.{shown_to};
 ghost use Rattle.evaluation.specs.Sought.{is_sought};
 ghost use Rattle.evaluation.specs.ReadSource.{Reader, PassWork};
 
-use crate::in_force::{Sought, Wanted, last_shown, lost_at_start, next_shown};
+use crate::in_force::{Sought, last_shown, next_shown};
 use crate::read_source::ReadSource;
 use crate::tables::is_on;
-use grants::{NextBy, NextInForce, Records};
+use grants::{Holder, NextBy, NextInForce, Records};
 use log_batch::LogBatch;
-use model_base::{Grant, Grantee, Kind, Place, Table, User};
+use model_base::{Grant, Kind, Place, Table, User};
 use std::marker::{Brand, PhantomData};
 
 /// Which reader something is, and what it did itself, whoever has it as `&mut` meanwhile: a call picks both.
@@ -126,16 +126,13 @@ fn shown_next<T: ReadSource>(
     ensures same { (T.as_reader source.new ≡ T.as_reader source.old) × (T.work source.new ≡ T.work source.old) }
 {
     let statement = batch.statement(source.reader());
-    if !is_on(statement, sought.table) {
+    if !is_on(statement, sought.holder.table) {
         return None;
     }
-    let Some(lost) = lost_at_start(batch, sought) else {
-        return None;
-    };
     let Some(next) = next_shown(batch, source, sought, from) else {
         return None;
     };
-    let Some(last) = last_shown(batch, source, sought, lost.place) else {
+    let Some(last) = last_shown(batch, source, sought) else {
         return None;
     };
     Some(NextInForce {
@@ -181,15 +178,9 @@ impl<T: ReadSource, P: Pinned> Records for ShownRecords<'_, T, P> {
         end
     }
 
-    fn next_to(
-        &mut self,
-        grantee: Grantee,
-        kind: Kind,
-        table: Table,
-        from: usize,
-    ) -> Option<usize> {
+    fn next_to(&mut self, holder: Holder, from: usize) -> Option<usize> {
         let _log = self.batch.log();
-        self.batch.next_to(&grantee, kind, table, from)
+        self.batch.next_to(&holder, from)
     }
 
     fn next_by(&mut self, user: User, kind: Kind, table: Table, from: usize) -> Option<usize> {
@@ -197,54 +188,18 @@ impl<T: ReadSource, P: Pinned> Records for ShownRecords<'_, T, P> {
         self.batch.next_by(user, kind, table, from)
     }
 
-    fn next_in_force(
-        &mut self,
-        grantee: Grantee,
-        kind: Kind,
-        table: Table,
-        option: bool,
-        from: usize,
-    ) -> Option<NextInForce> {
-        let sought = Sought {
-            grantee,
-            kind,
-            table,
-            wanted: Wanted::Giving(option),
-        };
+    fn next_in_force(&mut self, holder: Holder, option: bool, from: usize) -> Option<NextInForce> {
+        let sought = Sought::giving(holder, option);
         shown_next(self.batch, &mut self.source, &sought, from)
     }
 
-    fn next_slot_in_force(
-        &mut self,
-        grantee: Grantee,
-        kind: Kind,
-        table: Table,
-        option: bool,
-        from: usize,
-    ) -> Option<NextBy> {
-        let sought = Sought {
-            grantee,
-            kind,
-            table,
-            wanted: Wanted::Giving(option),
-        };
+    fn next_slot_in_force(&mut self, holder: Holder, option: bool, from: usize) -> Option<NextBy> {
+        let sought = Sought::giving(holder, option);
         next_shown(self.batch, &mut self.source, &sought, from)
     }
 
-    fn next_in_force_by(
-        &mut self,
-        user: User,
-        grantee: Grantee,
-        kind: Kind,
-        table: Table,
-        from: usize,
-    ) -> Option<NextBy> {
-        let sought = Sought {
-            grantee,
-            kind,
-            table,
-            wanted: Wanted::By(user),
-        };
+    fn next_in_force_by(&mut self, user: User, holder: Holder, from: usize) -> Option<NextBy> {
+        let sought = Sought::by(user, holder);
         next_shown(self.batch, &mut self.source, &sought, from)
     }
 }

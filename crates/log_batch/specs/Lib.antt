@@ -5,6 +5,7 @@ pub mod Named
 pub mod Referred
 pub mod StateBefore
 pub mod Supplied
+pub mod BatchRange
 pub mod Earlier
 pub mod Holders
 pub mod Revoked

@@ -17,10 +17,10 @@ use Rattle.log_batch.specs.Holders.{grantor_of, has_holder}
 use Rattle.log_batch.specs.Listing.{is_lent, is_open, is_reached, is_revoked, listed_below}
 use Rattle.log_batch.specs.Revoked.{is_named_by, names_of_kind, names_to}
 
--- whether the grant is by the user, to the grantee where one is given, and is of the kind on the table
-abbrev pub has_party : Party → Kind → ℕ → Grant → Bool
-has_party (Between user grantee) = gives_by user grantee
-has_party (By user) = is_by user
+-- whether the grant is by the user, to the holder's grantee where one is given, and is of the kind on the table
+abbrev pub has_party : Party → Grant → Bool
+has_party (Between user holder) = gives_by user holder.grantee holder.kind holder.table
+has_party (By user kind table) = is_by user kind table
 
 -- from one slot on, one of a grant before the batch that passes, and before it, or at all, none that has no end before the batch
 pub record IsNextOpen (batch : Batch) (passes : Grant → Bool) (from : ℕ) (found : Option ℕ) : Type 0 where

@@ -11,7 +11,8 @@ ghost use Rattle.log_batch.specs.Supplied.{batch_of};
 
 use crate::batch::LogBatch;
 use bohm_core_base::slots_stand_in_order;
-use model_base::{Grantee, Kind, RecordName, Table, User};
+use grants::Holder;
+use model_base::{Kind, RecordName, Table, User};
 
 impl LogBatch<'_> {
     /// The first slot whose record isn't before this one. It doesn't allocate, and takes a time that grows with the logarithm of the number
@@ -55,36 +56,29 @@ impl LogBatch<'_> {
         }
     }
 
-    /// The least slot at or above this one whose grant, made or not, is to this grantee, of this kind on this table, in force or not. It
-    /// doesn't allocate, and takes a time that grows with the logarithm of the number of such grants.
-    pub fn next_to(&self, grantee: &Grantee, kind: Kind, table: Table, from: usize) -> Option<usize>
-        ensures { IsNext (is_to grantee.now kind table) (batch_slots (batch_of self.now)) from result }
+    /// The least slot at or above this one whose grant, made or not, is to this holder, in force or not. It doesn't allocate, and takes a
+    /// time that grows with the logarithm of the number of such grants.
+    pub fn next_to(&self, holder: &Holder, from: usize) -> Option<usize>
+        ensures { IsNext (is_to holder.now.grantee holder.now.kind holder.now.table) (batch_slots (batch_of self.now)) from result }
     {
-        if let Some(slot) = self.earlier_to(grantee, kind, table, from) {
+        if let Some(slot) = self.earlier_to(holder, from) {
             return Some(slot);
         }
         let earlier = self.earlier_count();
-        match self.own_to(grantee, kind, table, from.saturating_sub(earlier)) {
+        match self.own_to(holder, from.saturating_sub(earlier)) {
             Some(slot) => Some(earlier + slot),
             None => None,
         }
     }
 
-    /// The least slot at or above this one, which is one of the batch's own grants or above, whose grant, made or not, is to this grantee,
-    /// of this kind on this table. It doesn't allocate, and takes a time that grows with the logarithm of the number of such grants of the
-    /// batch.
-    pub fn next_own_to(
-        &self,
-        grantee: &Grantee,
-        kind: Kind,
-        table: Table,
-        from: usize,
-    ) -> Option<usize>
+    /// The least slot at or above this one, which is one of the batch's own grants or above, whose grant, made or not, is to this holder. It
+    /// doesn't allocate, and takes a time that grows with the logarithm of the number of such grants of the batch.
+    pub fn next_own_to(&self, holder: &Holder, from: usize) -> Option<usize>
         requires { earlier_count (batch_of self.now) ≤ from }
-        ensures { IsNext (is_to grantee.now kind table) (batch_slots (batch_of self.now)) from result }
+        ensures { IsNext (is_to holder.now.grantee holder.now.kind holder.now.table) (batch_slots (batch_of self.now)) from result }
     {
         let earlier = self.earlier_count();
-        match self.own_to(grantee, kind, table, from - earlier) {
+        match self.own_to(holder, from - earlier) {
             Some(slot) => Some(earlier + slot),
             None => None,
         }

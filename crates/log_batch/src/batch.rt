@@ -14,14 +14,14 @@ ghost use Rattle.bohm_core_base.specs.Machine.{end_of, start};
 ghost use Rattle.log_batch.specs.Laws.{IsOfLog};
 ghost use Rattle.log_batch.specs.Earlier.{earlier_count, earlier_grants, own_grants, records_before};
 ghost use Rattle.log_batch.specs.Named.{grants_named};
-ghost use Rattle.log_batch.specs.StateBefore.{IsStateBefore};
 
+use crate::batch_range::BatchRange;
 use crate::referred::{References, reference_counts};
 use crate::state_before::StateBefore;
-use grants::{IndexedGrants, NextBy, NextInForce, Records};
+use grants::{Holder, IndexedGrants, NextBy, NextInForce, Records};
 use model_base::{
-    Deed, Deeds, Grant, Grantee, Key, Kind, MOST_ACCESSES, MOST_PARTITIONS, MOST_PLACES, Place,
-    Reference, Row, Statement, Table, User,
+    Deed, Deeds, Grant, Key, Kind, MOST_ACCESSES, MOST_PARTITIONS, MOST_PLACES, Place, Reference,
+    Row, Statement, Table, User,
 };
 use placing::Refs;
 use sequencer::LogTail;
@@ -109,26 +109,22 @@ fn named_grants(
 
 impl<'a> LogBatch<'a> {
     ghost use Rattle.log_batch.specs.Referred.{AreAtHand, is_found};
-    ghost use Rattle.log_batch.specs.Supplied.{batch_of, log_range, range_of};
+    ghost use Rattle.log_batch.specs.BatchRange.{IsBatchRange, range_given};
+    ghost use Rattle.log_batch.specs.Supplied.{batch_of, range_of};
 
     // The places of the range as a batch, with what is available of their references.
-    fn of(
-        alloc: Global,
-        log: &'a LogTail,
-        before: StateBefore<'a>,
-        range: Range<Place>,
-        partitions: usize,
-        references: References,
-    ) -> Result<Self, AllocError>
-        requires partitions { 0 < partitions }
-        requires few { partitions ≤ MOST_PARTITIONS }
-        requires kept { log.now.dropped ≤ range.start }
-        requires order { range.start ≤ range.end }
-        requires within { range.end ≤ length log.now.log.statements }
-        requires before { IsStateBefore log.now.log.statements range.start before }
-        requires references { AreAtHand log.now.log.statements range.start (range.end - range.start) references }
-        ensures { IfOk result (λ batch. batch ≡ log_range log.now.log range.start range.end partitions (is_found references)) }
+    fn of(alloc: Global, places: BatchRange<'a>, references: References) -> Result<Self, AllocError>
+        requires places { IsBatchRange places }
+        requires references { AreAtHand places.log.now.log.statements places.range.start
+            (places.range.end - places.range.start) references }
+        ensures { IfOk result (λ batch. batch ≡ range_given places.entry (is_found references)) }
     {
+        let BatchRange {
+            log,
+            before,
+            range,
+            partitions,
+        } = places;
         let _dropped = log.dropped();
         let _len = log.len();
         let _mark = before.chains.mark();
@@ -145,51 +141,24 @@ impl<'a> LogBatch<'a> {
         })
     }
 
-    /// The places of the range as a batch, placed by this many partitions, 1 to `MOST_PARTITIONS`. The versions of rows end where the range
-    /// begins and are those of the log, the book has the deeds before the range, and the references are `merge`'s for it. An error means
-    /// out of memory.
-    pub fn new(
-        alloc: Global,
-        log: &'a LogTail,
-        before: StateBefore<'a>,
-        range: Range<Place>,
-        partitions: usize,
-        references: Refs,
-    ) -> Result<Self, AllocError>
-        requires partitions { 0 < partitions }
-        requires few { partitions ≤ MOST_PARTITIONS }
-        requires kept { log.now.dropped ≤ range.start }
-        requires order { range.start ≤ range.end }
-        requires within { range.end ≤ length log.now.log.statements }
-        requires before { IsStateBefore log.now.log.statements range.start before }
-        requires references { references ≡ batch_references log.now.log.statements range.start range.end }
-        ensures { IfOk result (λ batch. batch ≡ log_range log.now.log range.start range.end partitions true) }
+    /// The places of the range as a batch, which are placed: the references are `merge`'s for the range. An error means out of memory.
+    pub fn new(alloc: Global, places: BatchRange<'a>, references: Refs) -> Result<Self, AllocError>
+        requires places { IsBatchRange places }
+        requires references { references ≡ batch_references places.log.now.log.statements places.range.start places.range.end }
+        ensures { IfOk result (λ batch. batch ≡ range_given places.entry true) }
     {
-        let found = References::Found(references);
-        Self::of(alloc, log, before, range, partitions, found)
+        Self::of(alloc, places, References::Found(references))
     }
 
     /// The places of the range as a batch that isn't placed: no reference is looked for, and of each place only the number of
-    /// its references is kept. This many partitions are to place it, 1 to `MOST_PARTITIONS`. The versions of rows end where the range
-    /// begins and are those of the log, and the book has the deeds before the range. An error is out of memory.
-    pub fn open(
-        alloc: Global,
-        log: &'a LogTail,
-        before: StateBefore<'a>,
-        range: Range<Place>,
-        partitions: usize,
-    ) -> Result<Self, AllocError>
-        requires partitions { 0 < partitions }
-        requires few { partitions ≤ MOST_PARTITIONS }
-        requires kept { log.now.dropped ≤ range.start }
-        requires order { range.start ≤ range.end }
-        requires within { range.end ≤ length log.now.log.statements }
-        requires before { IsStateBefore log.now.log.statements range.start before }
-        ensures { IfOk result (λ batch. batch ≡ log_range log.now.log range.start range.end partitions false) }
+    /// its references is kept. An error means out of memory.
+    pub fn open(alloc: Global, places: BatchRange<'a>) -> Result<Self, AllocError>
+        requires { IsBatchRange places }
+        ensures { IfOk result (λ batch. batch ≡ range_given places.entry false) }
     {
-        let counts = reference_counts(alloc, log, range.start..range.end)?;
-        let counted = References::Counted(counts);
-        Self::of(alloc, log, before, range, partitions, counted)
+        let range = places.range.start..places.range.end;
+        let counts = reference_counts(alloc, places.log, range)?;
+        Self::of(alloc, places, References::Counted(counts))
     }
 
     /// The log.
@@ -333,19 +302,13 @@ impl<'a> LogBatch<'a> {
         self.before.book.records().len()
     }
 
-    /// The least slot at or above this one whose grant was made before the batch and is to the grantee, of the kind on the table, in force
-    /// or not. It doesn't allocate, and takes what the book's index takes: the logarithm of the number of such grants.
-    pub fn earlier_to(
-        &self,
-        grantee: &Grantee,
-        kind: Kind,
-        table: Table,
-        from: usize,
-    ) -> Option<usize>
-        ensures { IsNext (is_to grantee.now kind table) (earlier_grants (batch_of self.now)) from result }
+    /// The least slot at or above this one whose grant was made before the batch and is to the holder, in force or not. It doesn't allocate,
+    /// and takes what the book's index takes: the logarithm of the number of such grants.
+    pub fn earlier_to(&self, holder: &Holder, from: usize) -> Option<usize>
+        ensures { IsNext (is_to holder.now.grantee holder.now.kind holder.now.table) (earlier_grants (batch_of self.now)) from result }
     {
         let mut view = self.before.book.at(self.first);
-        view.next_to(*grantee, kind, table, from)
+        view.next_to(*holder, from)
     }
 
     /// The least slot at or above this one whose grant was made before the batch and is by the user, of the kind on the table, in force or
@@ -357,56 +320,36 @@ impl<'a> LogBatch<'a> {
         view.next_by(user, kind, table, from)
     }
 
-    /// The least slot at or above this one of a grant in force before the batch to the grantee, of the kind on the table, and the last end
-    /// before the batch of such a grant; of grants with the option, where it is asked for. It doesn't allocate, and takes the logarithm of
-    /// the number of those in force. None where the book doesn't know what is in force.
-    pub fn earlier_in_force(
-        &self,
-        grantee: Grantee,
-        kind: Kind,
-        table: Table,
-        option: bool,
-        from: usize,
-    ) -> Option<NextInForce>
+    /// The least slot at or above this one of a grant in force before the batch to the holder, and the last end before the batch of such a
+    /// grant; of grants with the option, where it is asked for. It doesn't allocate, and takes the logarithm of the number of those in
+    /// force. None where the book doesn't know what is in force.
+    pub fn earlier_in_force(&self, holder: Holder, option: bool, from: usize) -> Option<NextInForce>
         ensures { IfSome result (λ next.
-            IsNextInForce (gives_to grantee kind table option) (records_before (batch_of self.now)) from next) }
+            IsNextInForce (gives_to holder.grantee holder.kind holder.table option) (records_before (batch_of self.now)) from next) }
     {
         let mut view = self.before.book.at(self.first);
-        view.next_in_force(grantee, kind, table, option, from)
+        view.next_in_force(holder, option, from)
     }
 
-    /// The least slot at or above this one of a grant in force before the batch by the user to the grantee, of the kind on the table. It
-    /// doesn't allocate, and takes the logarithm of the number of those in force to the grantee. None as in `earlier_in_force`.
-    pub fn earlier_in_force_by(
-        &self,
-        user: User,
-        grantee: Grantee,
-        kind: Kind,
-        table: Table,
-        from: usize,
-    ) -> Option<NextBy>
+    /// The least slot at or above this one of a grant in force before the batch by the user to the holder. It doesn't allocate, and takes
+    /// the logarithm of the number of those in force to the holder. None as in `earlier_in_force`.
+    pub fn earlier_in_force_by(&self, user: User, holder: Holder, from: usize) -> Option<NextBy>
         ensures { IfSome result (λ next.
-            IsFirst (λ k. is_in_force (gives_by user grantee kind table)
+            IsFirst (λ k. is_in_force (gives_by user holder.grantee holder.kind holder.table)
             (slice_get (records_before (batch_of self.now)) k)) from next.slot) }
     {
         let mut view = self.before.book.at(self.first);
-        view.next_in_force_by(user, grantee, kind, table, from)
+        view.next_in_force_by(user, holder, from)
     }
 
-    /// The least of the grants that the batch may make, counted from 0, at or above this one that is to the grantee, of the kind on the
-    /// table. It doesn't allocate, and takes the logarithm of the number of such grants.
-    pub(crate) fn own_to(
-        &self,
-        grantee: &Grantee,
-        kind: Kind,
-        table: Table,
-        from: usize,
-    ) -> Option<usize>
-        ensures next { IsNext (is_to grantee.now kind table) (own_grants (batch_of self.now)) from result }
+    /// The least of the grants that the batch may make, counted from 0, at or above this one that is to the holder. It doesn't allocate, and
+    /// takes the logarithm of the number of such grants.
+    pub(crate) fn own_to(&self, holder: &Holder, from: usize) -> Option<usize>
+        ensures next { IsNext (is_to holder.now.grantee holder.now.kind holder.now.table) (own_grants (batch_of self.now)) from result }
         ensures within { IfSome result (λ slot. earlier_count (batch_of self.now) + slot < 2 ^ 64) }
     {
         let _count = self.slot_count();
-        self.named.next_to(*grantee, kind, table, from)
+        self.named.next_to(*holder, from)
     }
 
     /// The least of the grants that the batch may make, counted from 0, at or above this one that is by the user, of the kind on the table.

@@ -12,6 +12,7 @@
 
 mod asking;
 mod batch;
+mod batch_range;
 mod ended;
 mod holders;
 mod laws;
@@ -23,6 +24,7 @@ mod revoked;
 mod state_before;
 
 pub use batch::LogBatch;
+pub use batch_range::BatchRange;
 pub use ended::ended_slots;
 pub use laws::{
     batches_of_logs_are_sound, done_places_of_logs_are_serial, references_are_of_the_log,

@@ -18,16 +18,16 @@ ghost use Rattle.grants_base.specs.Index.{is_one_of};
 use crate::batch::LogBatch;
 use crate::holders::{Holders, holder_of};
 use crate::revoked::Revoked;
-use grants::NextBy;
+use grants::{Holder, NextBy};
 use model_base::{Grant, Grantee, Kind, Revocation, Table, User};
 use std::alloc::{AllocError, Global};
 use std::collections::BTreeSet;
 
-/// Whose grants are looked for: those by a user to a grantee, or all by a user.
+/// Whose grants are looked for: those by a user to a holder, or all by a user of a kind on a table.
 #[derive(Clone, Copy)]
 enum Party {
-    Between(User, Grantee),
-    By(User),
+    Between(User, Holder),
+    By(User, Kind, Table),
 }
 
 /// The slots that are found, to whom they give an option, and what the revocations of the batch name.
@@ -38,21 +38,15 @@ pub(crate) struct Reach {
     revoked: Revoked,
 }
 
-/// The least slot at or above this one whose grant was made before the batch, by the user to the grantee and of the kind on the
-/// table, in force or not. It goes through those of others to the grantee up to it.
-fn next_between(
-    batch: &LogBatch<'_>,
-    user: User,
-    grantee: &Grantee,
-    kind: Kind,
-    table: Table,
-    start: usize,
-) -> Option<usize>
-    ensures { IsNext (gives_by user grantee.now kind table) (earlier_grants (batch_of batch.now)) start result }
+/// The least slot at or above this one whose grant was made before the batch, by the user to the holder, in force or not. It goes through
+/// those of others to the holder up to it.
+fn next_between(batch: &LogBatch<'_>, user: User, holder: &Holder, start: usize) -> Option<usize>
+    ensures { IsNext (gives_by user holder.now.grantee holder.now.kind holder.now.table)
+        (earlier_grants (batch_of batch.now)) start result }
 {
     let _count = batch.earlier_count();
     let mut from = start;
-    while let Some(slot) = batch.earlier_to(grantee, kind, table, from) {
+    while let Some(slot) = batch.earlier_to(holder, from) {
         if batch.grant(slot).grantor == user {
             return Some(slot);
         }
@@ -61,59 +55,38 @@ fn next_between(
     None
 }
 
-/// The least slot at or above this one whose grant was made before the batch and is one of this party, of the kind on the
-/// table, in force or not.
-fn next_made(
-    batch: &LogBatch<'_>,
-    party: &Party,
-    kind: Kind,
-    table: Table,
-    from: usize,
-) -> Option<usize>
-    ensures { IsNext (has_party party.now kind table) (earlier_grants (batch_of batch.now)) from result }
+/// The least slot at or above this one whose grant was made before the batch and is one of this party, in force or not.
+fn next_made(batch: &LogBatch<'_>, party: &Party, from: usize) -> Option<usize>
+    ensures { IsNext (has_party party.now) (earlier_grants (batch_of batch.now)) from result }
 {
     match party {
-        Party::Between(user, grantee) => next_between(batch, *user, grantee, kind, table, from),
-        Party::By(user) => batch.earlier_by(*user, kind, table, from),
+        Party::Between(user, holder) => next_between(batch, *user, holder, from),
+        Party::By(user, kind, table) => batch.earlier_by(*user, *kind, *table, from),
     }
 }
 
-/// The least slot at or above this one of a grant in force before the batch of this party, of the kind on the table. None where
-/// that isn't known, as of all by a user.
-fn next_in_force(
-    batch: &LogBatch<'_>,
-    party: &Party,
-    kind: Kind,
-    table: Table,
-    from: usize,
-) -> Option<NextBy>
+/// The least slot at or above this one of a grant in force before the batch of this party. None where that isn't known, as of all by
+/// a user.
+fn next_in_force(batch: &LogBatch<'_>, party: &Party, from: usize) -> Option<NextBy>
     ensures { IfSome result (λ next.
-        IsFirst (λ k. is_in_force (has_party party.now kind table) (slice_get (records_before (batch_of batch.now)) k)) from next.slot) }
+        IsFirst (λ k. is_in_force (has_party party.now) (slice_get (records_before (batch_of batch.now)) k)) from next.slot) }
 {
     match party {
-        Party::Between(user, grantee) => {
-            batch.earlier_in_force_by(*user, *grantee, kind, table, from)
-        }
-        Party::By(_) => None,
+        Party::Between(user, holder) => batch.earlier_in_force_by(*user, *holder, from),
+        Party::By(_, _, _) => None,
     }
 }
 
-/// A slot at or above this one of a grant of this party, of the kind on the table, such that none from this one on and before it
-/// is in force before the batch; none where there is no later one. It goes through those that aren't in force only where all by
-/// a user are looked for, or the book doesn't know which are.
-fn next_of(
-    batch: &LogBatch<'_>,
-    party: &Party,
-    kind: Kind,
-    table: Table,
-    from: usize,
-) -> Option<usize>
-    ensures { IsNextOpen (batch_of batch.now) (has_party party.now kind table) from result }
+/// A slot at or above this one of a grant of this party such that none from this one on and before it is in force before the batch;
+/// none where there is no later one. It goes through those that aren't in force only where all by a user are looked for, or the book
+/// doesn't know which are.
+fn next_of(batch: &LogBatch<'_>, party: &Party, from: usize) -> Option<usize>
+    ensures { IsNextOpen (batch_of batch.now) (has_party party.now) from result }
 {
     let _log = batch.log();
-    match next_in_force(batch, party, kind, table, from) {
+    match next_in_force(batch, party, from) {
         Some(next) => next.slot,
-        None => next_made(batch, party, kind, table, from),
+        None => next_made(batch, party, from),
     }
 }
 
@@ -130,23 +103,20 @@ fn add_slot(batch: &LogBatch<'_>, slot: usize, due: &mut BTreeSet<usize>) -> Res
     Ok(())
 }
 
-/// The slots from this one on are due, as `add_slot` says, whose grants were made before the batch and are this party's, of the
-/// kind on the table.
+/// The slots from this one on are due, as `add_slot` says, whose grants were made before the batch and are this party's.
 fn add_grants(
     batch: &LogBatch<'_>,
     party: &Party,
-    kind: Kind,
-    table: Table,
     start: usize,
     due: &mut BTreeSet<usize>,
 ) -> Result<(), AllocError>
-    ensures { OnOk result (Adds (batch_of batch.now) (has_party party.now kind table) start
+    ensures { OnOk result (Adds (batch_of batch.now) (has_party party.now) start
         (earlier_count (batch_of batch.now)) due.old.keys due.new.keys) }
 {
     let end = batch.earlier_count();
     let mut from = start;
     while from < end {
-        let Some(slot) = next_of(batch, party, kind, table, from) else {
+        let Some(slot) = next_of(batch, party, from) else {
             return Ok(());
         };
         add_slot(batch, slot, due)?;
@@ -172,8 +142,13 @@ fn put_kind(
         return Ok(());
     }
     if revoked.put(revocation, grantee, kind)? {
-        let party = Party::Between(revocation.grantor, *grantee);
-        add_grants(batch, &party, kind, revocation.table, 0, due)?;
+        let holder = Holder {
+            grantee: *grantee,
+            kind,
+            table: revocation.table,
+        };
+        let party = Party::Between(revocation.grantor, holder);
+        add_grants(batch, &party, 0, due)?;
     }
     Ok(())
 }
@@ -302,8 +277,8 @@ impl Reach {
         let _slots = batch.earlier_count();
         let grant = batch.grant(slot);
         if let Some(user) = self.take(slot, &grant)? {
-            let party = Party::By(user);
-            add_grants(batch, &party, grant.kind, grant.table, next, due)?;
+            let party = Party::By(user, grant.kind, grant.table);
+            add_grants(batch, &party, next, due)?;
         }
         Ok(())
     }

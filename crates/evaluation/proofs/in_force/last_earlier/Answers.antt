@@ -15,7 +15,7 @@ overflow_add-from g c =
     let passes = is_sought c.args.sought.now in
     let of_log = c.earlier_count-count.ensures.of_log in
     let first : IsFirst (was_in ranged passes) c.loop-from.from (Some c.in-Some-slot.slot) =
-    subst (λ (found : Option ℕ). IsFirst (was_in ranged passes) c.loop-from.from found) c.in-Some-slot.is c.in-Some.ensures in
+    subst (λ (found : Option ℕ). IsFirst (was_in ranged passes) c.loop-from.from found) c.in-Some-slot.is c.in-Some-next_at_start.ensures in
     let low = in-force-low ranged of_log index passes c.in-Some-slot.slot first.1 in
     omega (arith, low, c.earlier_count-count.ensures.value)
 
@@ -26,7 +26,7 @@ record_shown-grant-requires-clause-within g c =
     let passes = is_sought c.args.sought.now in
     let of_log = c.earlier_count-count.ensures.of_log in
     let first : IsFirst (was_in ranged passes) c.loop-from.from (Some c.in-Some-slot.slot) =
-    subst (λ (found : Option ℕ). IsFirst (was_in ranged passes) c.loop-from.from found) c.in-Some-slot.is c.in-Some.ensures in
+    subst (λ (found : Option ℕ). IsFirst (was_in ranged passes) c.loop-from.from found) c.in-Some-slot.is c.in-Some-next_at_start.ensures in
     let low = in-force-low ranged of_log index passes c.in-Some-slot.slot first.1 in
     omega (arith, low, c.earlier_count-count.ensures.value, c.earlier_count-count.ensures.within)
 
@@ -40,7 +40,7 @@ loop-from-init g c =
       source = refl;
       kept = refl;
       count = c.earlier_count-count.ensures.value;
-      last = last-start ranged of_log index passes (sought-on ranged of_log index c.args.sought.now c.requires.listed) c.args.before c.requires.before;
+      last = last-start ranged of_log index passes (sought-on ranged of_log index c.args.sought.now c.requires.listed) c.in-Some.before.place c.in-Some.ensures;
     }
 
 pub loop-from-preserved : goal.loop-from-preserved
@@ -50,7 +50,7 @@ loop-from-preserved g c =
     let passes = is_sought c.args.sought.now in
     let of_log = c.earlier_count-count.ensures.of_log in
     let first : IsFirst (was_in ranged passes) c.loop-from.from (Some c.in-Some-slot.slot) =
-    subst (λ (found : Option ℕ). IsFirst (was_in ranged passes) c.loop-from.from found) c.in-Some-slot.is c.in-Some.ensures in
+    subst (λ (found : Option ℕ). IsFirst (was_in ranged passes) c.loop-from.from found) c.in-Some-slot.is c.in-Some-next_at_start.ensures in
     let low = in-force-low ranged of_log index passes c.in-Some-slot.slot first.1 in
     let end : c.end_if_sought.result ≡ slot_end passes (slot_at (seen_view (seen_at ranged index)) c.in-Some-slot.slot) =
     c.end_if_sought.ensures
@@ -72,7 +72,7 @@ returns-in_default-slot-clause-last g c =
     let passes = is_sought c.args.sought.now in
     let of_log = c.earlier_count-count.ensures.of_log in
     last-early-none ranged of_log index passes c.loop-from.from c.loop-from.place c.loop-from.invariant.last
-    (subst (λ (found : Option ℕ). IsFirst (was_in ranged passes) c.loop-from.from found) c.in_default-slot.is c.in-Some.ensures)
+    (subst (λ (found : Option ℕ). IsFirst (was_in ranged passes) c.loop-from.from found) c.in_default-slot.is c.in-Some-next_at_start.ensures)
 
 pub returns-clause-last : goal.returns-clause-last
 returns-clause-last g c =

@@ -13,7 +13,7 @@ loop-from-preserved g c =
     let index = (g.T.ReadSource.as_reader c.args.source.now).index in
     let passes = is_sought c.args.sought.now in
     let of_log = c.slot_count-count.ensures.of_log in
-    let first : IsNext (is_to c.args.sought.now.grantee c.args.sought.now.kind c.args.sought.now.table) (batch_slots (batch_of ranged)) c.loop-from.from (Some c.in-Some.slot) = c.in-Some.ensures in
+    let first : IsNext (is_to c.args.sought.now.holder.grantee c.args.sought.now.holder.kind c.args.sought.now.holder.table) (batch_slots (batch_of ranged)) c.loop-from.from (Some c.in-Some.slot) = c.in-Some.ensures in
     let here : force_in ranged index passes c.in-Some.slot ≡ false =
     ap (λ (reader : Reader). force_in ranged reader.index passes c.in-Some.slot) (sym c.loop-from.invariant.source) ∙ sym (open-shown passes _ c.record_shown-grant.result.0 c.record_shown-grant.result.1 c.record_shown-grant.ensures.grant c.record_shown-grant.ensures.end) ∙ sym c.is_open.ensures ∙ c.if-is_open.false in
     let above = first.0 in
@@ -32,7 +32,7 @@ returns-then-is_open-clause-next g c =
     let index = (g.T.ReadSource.as_reader c.args.source.now).index in
     let passes = is_sought c.args.sought.now in
     let of_log = c.slot_count-count.ensures.of_log in
-    let first : IsNext (is_to c.args.sought.now.grantee c.args.sought.now.kind c.args.sought.now.table) (batch_slots (batch_of ranged)) c.loop-from.from (Some c.in-Some.slot) = c.in-Some.ensures in
+    let first : IsNext (is_to c.args.sought.now.holder.grantee c.args.sought.now.holder.kind c.args.sought.now.holder.table) (batch_slots (batch_of ranged)) c.loop-from.from (Some c.in-Some.slot) = c.in-Some.ensures in
     let here : force_in ranged index passes c.in-Some.slot ≡ true =
     ap (λ (reader : Reader). force_in ranged reader.index passes c.in-Some.slot) (sym c.loop-from.invariant.source) ∙ sym (open-shown passes _ c.record_shown-grant.result.0 c.record_shown-grant.result.1 c.record_shown-grant.ensures.grant c.record_shown-grant.ensures.end) ∙ sym c.is_open.ensures ∙ c.if-is_open.true in
     own-found ranged of_log index c.args.sought.now c.args.start c.loop-from.from c.in-Some.slot c.loop-from.invariant.start c.loop-from.invariant.passed first here
@@ -44,7 +44,7 @@ returns-in_default-clause-next g c =
     let passes = is_sought c.args.sought.now in
     let of_log = c.slot_count-count.ensures.of_log in
     own-none ranged of_log index c.args.sought.now c.args.start c.loop-from.from c.loop-from.invariant.passed
-    (subst (λ (found : Option ℕ). IsNext (is_to c.args.sought.now.grantee c.args.sought.now.kind c.args.sought.now.table) (batch_slots (batch_of ranged)) c.loop-from.from found) c.in_default.is c.next_own_to.ensures)
+    (subst (λ (found : Option ℕ). IsNext (is_to c.args.sought.now.holder.grantee c.args.sought.now.holder.kind c.args.sought.now.holder.table) (batch_slots (batch_of ranged)) c.loop-from.from found) c.in_default.is c.next_own_to.ensures)
 
 pub returns-clause-next : goal.returns-clause-next
 returns-clause-next g c =

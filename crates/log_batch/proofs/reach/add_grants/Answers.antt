@@ -12,6 +12,6 @@ loop-from-preserved c =
       end = c.earlier_count-end.ensures.value;
       start = omega arith;
       adds =
-          adds-one (batch_of c.args.batch.now) (has_party c.args.party.now c.args.kind c.args.table) c.args.start c.args.due.now.keys c.loop-from.from c.in-Some.slot
+          adds-one (batch_of c.args.batch.now) (has_party c.args.party.now) c.args.start c.args.due.now.keys c.loop-from.from c.in-Some.slot
           c.loop-from.due.keys c.add_slot.new.due.keys low c.loop-from.invariant.adds next c.in_ok-add_slot.ensures;
     }

@@ -9,7 +9,7 @@ abbrev pub invariant-loop-from : goal.invariant-loop-from
 invariant-loop-from l = record {
   end : l.end ≡ earlier_count (batch_of l.batch);
   start : l.start ≤ l.from;
-  adds : Adds (batch_of l.batch) (has_party l.party l.kind l.table) l.start l.from l.initial.due.keys l.due.keys;
+  adds : Adds (batch_of l.batch) (has_party l.party) l.start l.from l.initial.due.keys l.due.keys;
 }
 
 abbrev pub decreases-loop-from : goal.decreases-loop-from

@@ -11,20 +11,20 @@ use Rattle.log_batch.proofs.reach.next_between.Goals as goal
 pub grant-requires : goal.grant-requires
 grant-requires c =
     let next = c.in-Some.ensures in
-    let less = found-earlier (batch_of c.args.batch.now) (is_to c.args.grantee.now c.args.kind c.args.table) c.in-Some.slot next.1 in
+    let less = found-earlier (batch_of c.args.batch.now) (is_to c.args.holder.now.grantee c.args.holder.now.kind c.args.holder.now.table) c.in-Some.slot next.1 in
     omega (arith, less, c.earlier_count-count.ensures.value, c.earlier_count-count.ensures.within)
 
 pub overflow_add-from : goal.overflow_add-from
 overflow_add-from c =
     let next = c.in-Some.ensures in
-    let less = found-earlier (batch_of c.args.batch.now) (is_to c.args.grantee.now c.args.kind c.args.table) c.in-Some.slot next.1 in
+    let less = found-earlier (batch_of c.args.batch.now) (is_to c.args.holder.now.grantee c.args.holder.now.kind c.args.holder.now.table) c.in-Some.slot next.1 in
     omega (arith, less, c.earlier_count-count.ensures.value, c.earlier_count-count.type_inv)
 
 pub loop-slot-smaller : goal.loop-slot-smaller
 loop-slot-smaller c =
     let next = c.in-Some.ensures in
     let low = next.0 in
-    let less = found-earlier (batch_of c.args.batch.now) (is_to c.args.grantee.now c.args.kind c.args.table) c.in-Some.slot next.1 in
+    let less = found-earlier (batch_of c.args.batch.now) (is_to c.args.holder.now.grantee c.args.holder.now.kind c.args.holder.now.table) c.in-Some.slot next.1 in
     omega (arith, low, less)
 
 pub loop-slot-preserved : goal.loop-slot-preserved
@@ -34,9 +34,9 @@ loop-slot-preserved c =
     let low = next.0 in
     let slot = c.in-Some.slot in
     let from = c.loop-slot.from in
-    let test = passes_at (gives_by c.args.user c.args.grantee.now c.args.kind c.args.table) (earlier_grants b) in
-    let none = between-none c.args.user c.args.grantee.now c.args.kind c.args.table b from slot next in
-    let here = between-here c.args.user c.args.grantee.now c.args.kind c.args.table b from slot next c.grant.result c.grant.ensures in
+    let test = passes_at (gives_by c.args.user c.args.holder.now.grantee c.args.holder.now.kind c.args.holder.now.table) (earlier_grants b) in
+    let none = between-none c.args.user c.args.holder.now.grantee c.args.holder.now.kind c.args.holder.now.table b from slot next in
+    let here = between-here c.args.user c.args.holder.now.grantee c.args.holder.now.kind c.args.holder.now.table b from slot next c.grant.result c.grant.ensures in
     record {
       start = omega (arith, low, c.loop-slot.invariant.start);
       passed = one-passed test c.args.start from c.loop-slot.invariant.passed slot none (here ∙ sym c.eq.ensures ∙ c.if-eq.false);
@@ -48,7 +48,7 @@ returns-then-eq c =
     let next = c.in-Some.ensures in
     let slot = c.in-Some.slot in
     let from = c.loop-slot.from in
-    let test = passes_at (gives_by c.args.user c.args.grantee.now c.args.kind c.args.table) (earlier_grants b) in
-    let none = between-none c.args.user c.args.grantee.now c.args.kind c.args.table b from slot next in
-    let here = between-here c.args.user c.args.grantee.now c.args.kind c.args.table b from slot next c.grant.result c.grant.ensures in
+    let test = passes_at (gives_by c.args.user c.args.holder.now.grantee c.args.holder.now.kind c.args.holder.now.table) (earlier_grants b) in
+    let none = between-none c.args.user c.args.holder.now.grantee c.args.holder.now.kind c.args.holder.now.table b from slot next in
+    let here = between-here c.args.user c.args.holder.now.grantee c.args.holder.now.kind c.args.holder.now.table b from slot next c.grant.result c.grant.ensures in
     one-found test c.args.start from c.loop-slot.invariant.passed slot c.loop-slot.invariant.start next.0 none (here ∙ sym c.eq.ensures ∙ c.if-eq.true)

@@ -10,7 +10,7 @@ use Rattle.log_batch.proofs.reach.next_between.Given as goal
 abbrev pub invariant-loop-slot : goal.invariant-loop-slot
 invariant-loop-slot l = record {
   start : l.start ≤ l.from;
-  passed : NoneBetween (passes_at (gives_by l.user l.grantee l.kind l.table) (earlier_grants (batch_of l.batch))) l.start l.from;
+  passed : NoneBetween (passes_at (gives_by l.user l.holder.grantee l.holder.kind l.holder.table) (earlier_grants (batch_of l.batch))) l.start l.from;
 }
 
 abbrev pub decreases-loop-slot : goal.decreases-loop-slot

@@ -11,5 +11,5 @@ use Rattle.log_batch.proofs.reach.next_in_force.Goals as goal
 pub returns-in-Between : goal.returns-in-Between
 returns-in-Between c =
     let entries = records_before (batch_of c.args.batch.now) in
-    subst (λ (party : Party). IfSome c.earlier_in_force_by.result (λ next. IsFirst (λ k. is_in_force (has_party party c.args.kind c.args.table) (slice_get entries k)) c.args.from next.slot))
+    subst (λ (party : Party). IfSome c.earlier_in_force_by.result (λ next. IsFirst (λ k. is_in_force (has_party party) (slice_get entries k)) c.args.from next.slot))
     (sym c.in-Between.is) c.earlier_in_force_by.ensures

@@ -6,8 +6,8 @@ use Rattle.log_batch.proofs.reach.next_of.Goals as goal
 
 pub returns-in-Some : goal.returns-in-Some
 returns-in-Some c =
-    open-first (range_of c.args.batch.now) (has_party c.args.party.now c.args.kind c.args.table) c.args.from c.in-Some.next.slot c.in-Some.ensures
+    open-first (range_of c.args.batch.now) (has_party c.args.party.now) c.args.from c.in-Some.next.slot c.in-Some.ensures
 
 pub returns-in-None : goal.returns-in-None
 returns-in-None c =
-    open-next (batch_of c.args.batch.now) (has_party c.args.party.now c.args.kind c.args.table) c.args.from c.next_made.result c.next_made.ensures
+    open-next (batch_of c.args.batch.now) (has_party c.args.party.now) c.args.from c.next_made.result c.next_made.ensures

@@ -11,7 +11,7 @@ use Rattle.log_batch.proofs.batch.LogBatch.earlier_in_force.Goals as goal
 pub returns : goal.returns
 returns c =
     let s = c.self.inside in
-    let passes = gives_to c.args.grantee c.args.kind c.args.table c.args.option in
+    let passes = gives_to c.args.holder.grantee c.args.holder.kind c.args.holder.table c.args.option in
     let Told : Entries → ℕ → Type 0 = λ (book : Entries). λ (place : ℕ). IfSome c.next_in_force.result (λ next. ShowsNextInForce passes (view_of book place) c.args.from next) in
     let book = subst (λ (book : Entries). Told book c.at-view.result.place) c.at-view.ensures.book c.next_in_force.ensures.next in
     let place = subst (λ (place : ℕ). Told s.before.book.now place) c.at-view.ensures.place book in

@@ -12,7 +12,7 @@ use Rattle.log_batch.proofs.batch.LogBatch.earlier_in_force_by.Goals as goal
 pub returns : goal.returns
 returns c =
     let s = c.self.inside in
-    let passes = gives_by c.args.user c.args.grantee c.args.kind c.args.table in
+    let passes = gives_by c.args.user c.args.holder.grantee c.args.holder.kind c.args.holder.table in
     let Told : Entries → ℕ → Type 0 = λ (book : Entries). λ (place : ℕ). IfSome c.next_in_force_by.result (λ next. IsFirst (λ k. is_in_force passes (slot_at (view_of book place) k)) c.args.from next.slot) in
     let book = subst (λ (book : Entries). Told book c.at-view.result.place) c.at-view.ensures.book c.next_in_force_by.ensures.next in
     let place = subst (λ (place : ℕ). Told s.before.book.now place) c.at-view.ensures.place book in

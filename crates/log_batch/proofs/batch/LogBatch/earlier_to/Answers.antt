@@ -14,5 +14,5 @@ returns c =
     let s = c.self.inside in
     let range = range_of record { log = s.log.now.log; first = s.first; size = s.size; partitions = s.partitions; placed = is_found s.references } in
     let same = ap (λ (entries : Entries). recorded entries.records) c.at-view.ensures.book ∙ book-earlier range s.before.book.now c.self.invariant.before.book.same in
-    subst (λ (ranged : LogRange). IsNext (is_to c.args.grantee.now c.args.kind c.args.table) (earlier_grants (batch_of ranged)) c.args.from c.next_to.result) c.self.view_is
-    (subst (λ (grants : List Grant). IsNext (is_to c.args.grantee.now c.args.kind c.args.table) grants c.args.from c.next_to.result) same c.next_to.ensures.next)
+    subst (λ (ranged : LogRange). IsNext (is_to c.args.holder.now.grantee c.args.holder.now.kind c.args.holder.now.table) (earlier_grants (batch_of ranged)) c.args.from c.next_to.result) c.self.view_is
+    (subst (λ (grants : List Grant). IsNext (is_to c.args.holder.now.grantee c.args.holder.now.kind c.args.holder.now.table) grants c.args.from c.next_to.result) same c.next_to.ensures.next)

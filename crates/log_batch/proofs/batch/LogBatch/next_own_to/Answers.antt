@@ -9,7 +9,7 @@ use Rattle.log_batch.proofs.batch.LogBatch.next_own_to.Goals as goal
 pub returns-in-Some : goal.returns-in-Some
 returns-in-Some c =
     let batch = batch_of c.args.self.now in
-    let passes = is_to c.args.grantee.now c.args.kind c.args.table in
+    let passes = is_to c.args.holder.now.grantee c.args.holder.now.kind c.args.holder.now.table in
     let low = c.requires in
     let from = ap (λ (count : ℕ). c.args.from - count) c.earlier_count-earlier.ensures.value in
     subst (λ (count : ℕ). IsNext passes (batch_slots batch) c.args.from (Some (count + c.in-Some.slot))) (sym c.earlier_count-earlier.ensures.value)
@@ -20,7 +20,7 @@ returns-in-Some c =
 pub returns-in-None : goal.returns-in-None
 returns-in-None c =
     let batch = batch_of c.args.self.now in
-    let passes = is_to c.args.grantee.now c.args.kind c.args.table in
+    let passes = is_to c.args.holder.now.grantee c.args.holder.now.kind c.args.holder.now.table in
     let low = c.requires in
     let from = ap (λ (count : ℕ). c.args.from - count) c.earlier_count-earlier.ensures.value in
     none-behind passes (batch_slots batch) (earlier_count batch) c.args.from

@@ -11,26 +11,26 @@ use Rattle.log_batch.proofs.batch.LogBatch.of.Goals as goal
 
 pub invariant_of-result : goal.invariant_of-result
 invariant_of-result c =
-    let log = c.args.log.now.log.statements in
-    let first = c.args.range.start in
-    let order = c.requires.order in
-    let end : first + (c.args.range.end - first) ≡ c.args.range.end = omega arith in
+    let log = c.args.places.log.now.log.statements in
+    let first = c.args.places.range.start in
+    let order = c.requires.places.order in
+    let end : first + (c.args.places.range.end - first) ≡ c.args.places.range.end = omega arith in
     let named = c.in_ok-named.named in
     let marked = c.mark-mark.ensures.within in
-    let ends = c.requires.before.ends in
+    let ends = c.requires.places.before.ends in
     record {
       whole = c.dropped-dropped.ensures.whole;
       few = c.len-len.ensures.most;
-      partitions = c.requires.partitions;
-      few_partitions = c.requires.few;
-      within = (let within = c.requires.within in omega arith);
-      kept = c.requires.kept;
+      partitions = c.requires.places.partitions;
+      few_partitions = c.requires.places.few;
+      within = (let within = c.requires.places.within in omega arith);
+      kept = c.requires.places.kept;
       begins = omega arith;
-      before = c.requires.before;
+      before = c.requires.places.before;
       references = c.requires.references;
       slots =
-          ap (λ (entries : List Record). recorded entries ++ named) c.requires.before.book.same
+          ap (λ (entries : List Record). recorded entries ++ named) c.requires.places.before.book.same
           ∙ ap (λ (grants : List Grant). grants ++ named) (recorded-records (owners log) (deeds_before log first))
           ∙ ap (λ (grants : List Grant). grants_of (deeds_before log first) ++ grants) c.in_ok-named.ensures
-          ∙ sym (slots-split (range_of record { log = c.args.log.now.log; first = first; size = c.args.range.end - first; partitions = c.args.partitions; placed = is_found c.args.references }));
+          ∙ sym (slots-split (range_of record { log = c.args.places.log.now.log; first = first; size = c.args.places.range.end - first; partitions = c.args.places.partitions; placed = is_found c.args.references }));
     }

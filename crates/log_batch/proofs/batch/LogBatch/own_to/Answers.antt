@@ -12,5 +12,5 @@ returns-clause-next c =
     let s = c.self.inside in
     let range = range_of record { log = s.log.now.log; first = s.first; size = s.size; partitions = s.partitions; placed = is_found s.references } in
     let same = book-behind range s.before.book.now c.self.invariant.before.book.same s.named c.self.invariant.slots in
-    subst (λ (ranged : LogRange). IsNext (is_to c.args.grantee.now c.args.kind c.args.table) (own_grants (batch_of ranged)) c.args.from c.next_to.result) c.self.view_is
-    (subst (λ (grants : List Grant). IsNext (is_to c.args.grantee.now c.args.kind c.args.table) grants c.args.from c.next_to.result) same c.next_to.ensures)
+    subst (λ (ranged : LogRange). IsNext (is_to c.args.holder.now.grantee c.args.holder.now.kind c.args.holder.now.table) (own_grants (batch_of ranged)) c.args.from c.next_to.result) c.self.view_is
+    (subst (λ (grants : List Grant). IsNext (is_to c.args.holder.now.grantee c.args.holder.now.kind c.args.holder.now.table) grants c.args.from c.next_to.result) same c.next_to.ensures)
