@@ -1,7 +1,7 @@
 -- A batch with a state that some events reached: the machine in its running, as a place of BOHM is at each time
 -- unprocessed, executing or complete (J. M. Faleiro and D. J. Abadi, "Rethinking Serializable Multiversion Concurrency
 -- Control", PVLDB 8, 2015, section 3).
-use Rattle.std.specs.Prelude.{◌≡◌, ◌++◌, List}
+use Rattle.std.specs.Prelude.{◌≡◌, ◌++◌, List, OnErr, OnOk, Result}
 use Rattle.bohm_core_base.specs.declared.event.Event.{Event}
 use Rattle.bohm_core_base.specs.Batch.{Batch, IsSoundBatch}
 use Rattle.bohm_core_base.specs.Machine.{State, effect, reach, run_from, start}
@@ -16,6 +16,11 @@ pub record IsReached (batch : Batch) (state : State) : Type 0 where
   pub sound : IsSoundBatch batch
   pub events : List Event
   pub reached : state ≡ reach batch events
+
+-- the event was made; or after an error, which is out of memory, nothing has changed
+pub record Applies {T E : Type 0} (batch : Batch) (event : Event) (result : Result T E) (old new : State) : Type 0 where
+  pub ok : OnOk result (new ≡ effect batch old event)
+  pub err : OnErr result (new ≡ old)
 
 module _ {S : Type 0} (batch : S → Batch) where
   -- before anything runs

@@ -1,11 +1,11 @@
 //! What one event does.
 
-ghost use Rattle.std.specs.Prelude.{◌≡◌, ◌<◌, ◌^◌, ℕ, ◌+◌, Bool, true, false, nat_lt, not, IfOk, IsTrue, OnErr, OnOk, length, if◌then◌else◌};
+ghost use Rattle.std.specs.Prelude.{◌≡◌, ◌<◌, ◌^◌, ℕ, ◌+◌, Bool, true, false, nat_lt, not, IfOk, IsTrue, OnErr, length, if◌then◌else◌};
 ghost use Rattle.bohm_core_base.specs.Batch.{batch_slots, words_length};
 ghost use Rattle.bohm_core_base.specs.Laws.{ShowsSerial};
-ghost use Rattle.bohm_core_base.specs.Machine.{all_below, all_ended, all_filled, can_claim, can_give_back, effect, end_of, hold_of, is_held_by, own_of, with_hold};
+ghost use Rattle.bohm_core_base.specs.Machine.{all_below, all_ended, all_filled, can_claim, can_give_back, end_of, hold_of, is_held_by, own_of, with_hold};
 ghost use Rattle.bohm_core_base.specs.Serial.{is_end};
-ghost use Rattle.bohm_core.specs.Running.{IsReached};
+ghost use Rattle.bohm_core.specs.Running.{Applies, IsReached};
 ghost use Rattle.bohm_core.specs.Storage.{takes_memory};
 
 use crate::state::State;
@@ -14,15 +14,22 @@ use bohm_core_base::{Event, Hold};
 use model_base::Place;
 use std::alloc::AllocError;
 
+/// An actor, and the place at which it has its turn.
+#[derive(Clone, Copy)]
+struct Turn {
+    actor: u64,
+    index: usize,
+}
+
 /// Whether the actor holds the place.
-fn is_held(state: &State, actor: u64, index: usize) -> bool
-    ensures value { result ≡ is_held_by actor (hold_of state.now index) }
-    ensures within { IsTrue result → index < length state.now.holds }
-    ensures small { IsTrue result → index < 2 ^ 63 }
+fn is_held(state: &State, turn: Turn) -> bool
+    ensures value { result ≡ is_held_by turn.actor (hold_of state.now turn.index) }
+    ensures within { IsTrue result → turn.index < length state.now.holds }
+    ensures small { IsTrue result → turn.index < 2 ^ 63 }
 {
-    if index < state.places() {
-        match state.hold(index) {
-            Hold::Held { actor: other } => other == actor,
+    if turn.index < state.places() {
+        match state.hold(turn.index) {
+            Hold::Held { actor } => actor == turn.actor,
             _ => false,
         }
     } else {
@@ -86,8 +93,7 @@ fn place_next<S: Statements>(
     partition: usize,
 ) -> Result<(), AllocError>
     requires { IsReached (S.batch statements.now) state.old }
-    ensures ok { OnOk result (state.new ≡ effect (S.batch statements.now) state.old (Event.Place partition)) }
-    ensures err { OnErr result (state.new ≡ state.old) }
+    ensures { Applies (S.batch statements.now) (Event.Place partition) result state.old state.new }
 {
     if state.has_next(partition) {
         let references = statements.stored(state, partition)?;
@@ -107,17 +113,12 @@ fn claim(state: &mut State, actor: u64, index: usize)
 }
 
 /// The actor stores the next own word of the place.
-fn fill<S: Statements>(
-    statements: &S,
-    state: &mut State,
-    actor: u64,
-    index: usize,
-) -> Result<(), AllocError>
+fn fill<S: Statements>(statements: &S, state: &mut State, turn: Turn) -> Result<(), AllocError>
     requires { IsReached (S.batch statements.now) state.old }
-    ensures ok { OnOk result (state.new ≡ effect (S.batch statements.now) state.old (Event.Fill actor index)) }
-    ensures err { OnErr result (state.new ≡ state.old) }
+    ensures { Applies (S.batch statements.now) (Event.Fill turn.actor turn.index) result state.old state.new }
 {
-    if is_held(state, actor, index) && state.all_ready(index) && is_due(statements, state, index) {
+    let index = turn.index;
+    if is_held(state, turn) && state.all_ready(index) && is_due(statements, state, index) {
         let word = statements.next_word(state, index)?;
         state.push_word(index, word)?;
     }
@@ -128,15 +129,14 @@ fn fill<S: Statements>(
 fn end<S: Statements>(
     statements: &S,
     state: &mut State,
-    actor: u64,
-    index: usize,
+    turn: Turn,
     slot: usize,
 ) -> Result<(), AllocError>
     requires { IsReached (S.batch statements.now) state.old }
-    ensures ok { OnOk result (state.new ≡ effect (S.batch statements.now) state.old (Event.End actor index slot)) }
-    ensures err { OnErr result (state.new ≡ state.old) }
+    ensures { Applies (S.batch statements.now) (Event.End turn.actor turn.index slot) result state.old state.new }
 {
-    if is_held(state, actor, index)
+    let index = turn.index;
+    if is_held(state, turn)
         && state.all_ready(index)
         && is_filled(statements, state, index)
         && slot < state.slots()
@@ -151,17 +151,12 @@ fn end<S: Statements>(
 
 /// The actor is done with the place.
 #[tactic(auto, using(crate::proofs::Reached::one_end_each))]
-fn finish<S: Statements>(
-    statements: &S,
-    state: &mut State,
-    actor: u64,
-    index: usize,
-) -> Result<(), AllocError>
+fn finish<S: Statements>(statements: &S, state: &mut State, turn: Turn) -> Result<(), AllocError>
     requires { IsReached (S.batch statements.now) state.old }
-    ensures ok { OnOk result (state.new ≡ effect (S.batch statements.now) state.old (Event.Finish actor index)) }
-    ensures err { OnErr result (state.new ≡ state.old) }
+    ensures { Applies (S.batch statements.now) (Event.Finish turn.actor turn.index) result state.old state.new }
 {
-    if is_held(state, actor, index) && is_filled(statements, state, index) {
+    let index = turn.index;
+    if is_held(state, turn) && is_filled(statements, state, index) {
         let place = statements.first() + index as u64;
         if has_ended(statements, state, index, place)? {
             state.set_hold(index, Hold::Done);
@@ -171,14 +166,14 @@ fn finish<S: Statements>(
 }
 
 /// The actor gives the place back.
-fn give_back<S: Statements>(statements: &S, state: &mut State, actor: u64, index: usize)
-    ensures { state.new ≡ (if can_give_back (S.batch statements.now) state.old actor index
-        then with_hold state.old index Hold.Free else state.old) }
+fn give_back<S: Statements>(statements: &S, state: &mut State, turn: Turn)
+    ensures { state.new ≡ (if can_give_back (S.batch statements.now) state.old turn.actor turn.index
+        then with_hold state.old turn.index Hold.Free else state.old) }
 {
-    if is_held(state, actor, index) && state.own(index).is_empty() {
-        let place = statements.first() + index as u64;
+    if is_held(state, turn) && state.own(turn.index).is_empty() {
+        let place = statements.first() + turn.index as u64;
         if has_none(state, place) {
-            state.set_hold(index, Hold::Free);
+            state.set_hold(turn.index, Hold::Free);
         }
     }
 }
@@ -191,8 +186,7 @@ pub(crate) fn apply<S: Statements>(
     event: &Event,
 ) -> Result<(), AllocError>
     requires { IsReached (S.batch statements.now) state.old }
-    ensures ok { OnOk result (state.new ≡ effect (S.batch statements.now) state.old event.now) }
-    ensures err { OnErr result (state.new ≡ state.old) }
+    ensures applied { Applies (S.batch statements.now) event.now result state.old state.new }
     ensures memory { OnErr result (takes_memory event.now ≡ true) }
 {
     match *event {
@@ -201,11 +195,11 @@ pub(crate) fn apply<S: Statements>(
             claim(state, actor, index);
             Ok(())
         }
-        Event::Fill { actor, index } => fill(statements, state, actor, index),
-        Event::End { actor, index, slot } => end(statements, state, actor, index, slot),
-        Event::Finish { actor, index } => finish(statements, state, actor, index),
+        Event::Fill { actor, index } => fill(statements, state, Turn { actor, index }),
+        Event::End { actor, index, slot } => end(statements, state, Turn { actor, index }, slot),
+        Event::Finish { actor, index } => finish(statements, state, Turn { actor, index }),
         Event::GiveBack { actor, index } => {
-            give_back(statements, state, actor, index);
+            give_back(statements, state, Turn { actor, index });
             Ok(())
         }
     }

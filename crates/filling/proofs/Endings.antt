@@ -4,7 +4,7 @@ use Rattle.std.specs.Prelude.{slice_get, ◌⊎◌}
 use Rattle.std.specs.Option.{option_map, option_map_or}
 use Rattle.std.specs.List.Sorted.{IsStrictlyIncreasing}
 use Rattle.std.proofs.lemmas.Bool.{eqb-true}
-use Rattle.std.proofs.lemmas.List.{length-map}
+use Rattle.std.proofs.lemmas.List.{append-nil, drop_all, length-map}
 use Rattle.model_base.specs.declared.deed.Deed.{Deed}
 use Rattle.model_base.specs.declared.deed.Deed.TheVariants.{Granting, Revoking}
 use Rattle.model_base.specs.declared.deed.Grant.{Grant}
@@ -102,6 +102,11 @@ module _ (b : Batch) (index : ℕ) where
       ∙ append_assoc before (ended_ranks_at b (one ∷ []) index) (ended_ranks_at b (drop (suc k) slots) index)
       ∙ ap (λ rest. before ++ rest) (both ∙ ap (λ rest. ended_ranks_at b rest index) (sym split))
       ∙ all
+
+  -- and after the last slot they are all
+  pub ended-all : (slots names whole : List ℕ) (k : ℕ) → length slots ≤ k → names ++ ended_ranks_at b (drop k slots) index ≡ whole → names ≡ whole
+  ended-all slots names whole k past all =
+      sym (append-nil names) ∙ subst (λ rest. names ++ ended_ranks_at b rest index ≡ whole) (drop_all k slots past) all
 
 -- a lost grant's rank is that of one of the grants
 lost-in : (x : ℕ) (before after : List Grant) → In x (lost before after) → In x (map rank before)

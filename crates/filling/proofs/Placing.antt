@@ -132,11 +132,12 @@ pub stores-then : (token middle after : PlacerState) → OnlyStores token middle
 stores-then token middle after first second = second ∙ ap (λ (from : PlacerState). storing from after.view.stored) first
 
 -- where it is stands
-pub at-stays : (words : Words Key) (token after : PlacerState) (latest : Latest) (statement : Statement) → OnlyStores token after
-    → IsAt words token latest statement → IsAt words after latest statement
-at-stays words token after latest statement only is =
-    subst (λ (t : PlacerState). IsAt words t latest statement) (sym only) record {
+pub at-stays : (words : Words Key) (key : Key) (token after : PlacerState) (latest : Latest) (statement : Statement) → OnlyStores token after
+    → IsAt words key token latest statement → IsAt words key after latest statement
+at-stays words key token after latest statement only is =
+    subst (λ (t : PlacerState). IsAt words key t latest statement) (sym only) record {
       same_table = is.same_table;
+      key = is.key;
       of_log = is.of_log;
       within = is.within;
       at = is.at;
@@ -187,11 +188,11 @@ stored-other batch view count other before number low within mine = by_order (le
     by_order (inr same) = absurd (other (ap (λ n. partition_at batch (front_in view) n) (sym same) ∙ mine))
 
 -- the word of what a placer found for an access into its partition is that of the batch
-pub found-row : (words : Words Key) (token : PlacerState) (latest : Latest) (statement : Statement) → IsAt words token latest statement
+pub found-row : (words : Words Key) (key : Key) (token : PlacerState) (latest : Latest) (statement : Statement) → IsAt words key token latest statement
     → (number : ℕ) (access : Access) → number < length (accesses_of statement.form) → access ≡ get_or (accesses_of statement.form) number access
     → key_partition words.key.batch.partitions access.key.table access.key.row ≡ token.view.partition
     → word_of words.key.batch.first (own_writer latest access) ≡ reference_at (batch_of words.key.batch) (front_in token.view) number
-found-row words token latest statement is number access within here mine =
+found-row words key token latest statement is number access within here mine =
     let ranged = words.key.batch in
     let same : key_partition latest.partitions access.key.table access.key.row ≡ latest.partition =
     ap (λ n. key_partition n access.key.table access.key.row) is.partitions ∙ mine ∙ sym is.partition in
@@ -200,12 +201,12 @@ found-row words token latest statement is number access within here mine =
     ∙ sym (row-word ranged is.of_log (front_in token.view) statement is.at number access within here)
 
 -- and so is that of what it found for a table
-pub found-table : (words : Words Key) (token : PlacerState) (latest : Latest) (statement : Statement) → IsAt words token latest statement
+pub found-table : (words : Words Key) (key : Key) (token : PlacerState) (latest : Latest) (statement : Statement) → IsAt words key token latest statement
     → (number table : ℕ) → number < length (tables_of statement.form) → table ≡ get_or (tables_of statement.form) number 0
     → table_partition words.key.batch.partitions table ≡ token.view.partition
     → word_of words.key.batch.first (own_prior latest table)
     ≡ reference_at (batch_of words.key.batch) (front_in token.view) (length (accesses_of statement.form) + number)
-found-table words token latest statement is number table within here mine =
+found-table words key token latest statement is number table within here mine =
     let ranged = words.key.batch in
     let same : table_partition latest.partitions table ≡ latest.partition =
     ap (λ n. table_partition n table) is.partitions ∙ mine ∙ sym is.partition in
@@ -214,10 +215,10 @@ found-table words token latest statement is number table within here mine =
     ∙ sym (table-word ranged is.of_log (front_in token.view) statement is.at number table within here)
 
 -- this many references are all of the place
-pub stored-all : (words : Words Key) (token : PlacerState) (latest : Latest) (statement : Statement) → IsAt words token latest statement
+pub stored-all : (words : Words Key) (key : Key) (token : PlacerState) (latest : Latest) (statement : Statement) → IsAt words key token latest statement
     → StoredBelow (batch_of words.key.batch) token.view (length (accesses_of statement.form) + length (tables_of statement.form))
     → StoredAll (batch_of words.key.batch) token.view
-stored-all words token latest statement is below number within mine =
+stored-all words key token latest statement is below number within mine =
     below number (let count = references-count words.key.batch is.of_log (front_in token.view) statement is.at in omega arith) within mine
 
 -- who stores and then goes on has only placed a place

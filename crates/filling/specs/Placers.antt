@@ -53,9 +53,11 @@ AdvancedMeans ranged placer (Next place) after =
 AdvancedMeans ranged placer End after = (placer_front placer ≡ ranged.size) × (after ≡ placer)
 AdvancedMeans ranged placer NoMemory after = (placer_front placer < ranged.size) × (after.token ≡ placer.token)
 
--- the place at the front is one of the batch, which is of a log, and has this statement, and the placer keeps all places below it
-pub record IsAt (words : Words Key) (token : PlacerState) (kept : Latest) (statement : Statement) : Type 0 where
+-- the words are those of the key; the place at the front is one of the batch, which is of a log, and has this statement, and the placer
+-- keeps all places below it
+pub record IsAt (words : Words Key) (mine : Key) (token : PlacerState) (kept : Latest) (statement : Statement) : Type 0 where
   pub same_table : IsPlacerOf words token
+  pub key : words.key ≡ mine
   pub of_log : IsOfLog (range_of words.key.batch)
   pub within : front_in token.view < words.key.batch.size
   pub at : slice_get words.key.batch.log.statements (words.key.batch.first + front_in token.view) ≡ Some statement

@@ -45,6 +45,11 @@ IsEndBelow batch view slot end =
 abbrev pub KeepsKnown : List ℕ → List ℕ → Type 0
 KeepsKnown known after = (index : ℕ) → In index known → In index after
 
+-- the pass is one of the words, which are those of the key
+pub record IsPassIn {K : Type 0} (words : Words K) (mine : K) (pass : PassState) : Type 0 where
+  pub same_table : IsPassOf words pass
+  pub key : words.key ≡ mine
+
 -- the pass is one of the words, which are those of the key, and knows the place placed and all done that it is referred to
 pub record CanRead (words : Words Key) (mine : Key) (pass : PassState) (at : ℕ) : Type 0 where
   pub same_table : IsPassOf words pass

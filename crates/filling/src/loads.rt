@@ -6,9 +6,9 @@ ghost use Rattle.bohm_core_base.specs.Machine.{end_of, start};
 ghost use Rattle.bohm_core_base.specs.Serial.{serial_words};
 ghost use Rattle.log_batch.specs.Supplied.{batch_of};
 ghost use Rattle.evaluation.specs.ReadSource.{IsDeedBefore};
-ghost use Rattle.words.specs.Passes.{IsPassOf, gone_on};
+ghost use Rattle.words.specs.Passes.{gone_on};
 ghost use Rattle.words.specs.Views.{KnowsReferences, with_known};
-ghost use Rattle.filling.specs.Readings.{IsEndBelow};
+ghost use Rattle.filling.specs.Readings.{IsEndBelow, IsPassIn};
 
 use crate::key::RangeKey;
 use bohm_core_base::{done_places_are_serial, other_records_keep_their_ends};
@@ -25,8 +25,7 @@ pub(crate) fn deed_was_done<K: BatchData>(
     reader: usize,
     index: usize,
 ) -> bool
-    requires same_table { IsPassOf words.now holding.old }
-    requires key { words.now.key ≡ key.now }
+    requires pass { IsPassIn words.now key.now holding.old }
     requires within { reader < (K.batch words.now.key).size }
     requires ready { KnowsReferences (K.batch words.now.key) holding.old.view reader }
     requires deed { IsDeedBefore (record { batch = K.batch words.now.key; index = reader }) index }
@@ -47,8 +46,7 @@ fn end_by_word<'a>(
     holding: &mut Holding,
     slot: usize,
 ) -> Option<Place>
-    requires same_table { IsPassOf words.now holding.old }
-    requires key { words.now.key ≡ key.now }
+    requires pass { IsPassIn words.now key.now holding.old }
     requires slot { slot < length (batch_slots (batch_of key.now.batch)) }
     requires open { end_of (start (batch_of key.now.batch)) slot ≡ None }
     ensures same { holding.new ≡ holding.old }
@@ -70,8 +68,7 @@ pub(crate) fn end_at<'a>(
     holding: &mut Holding,
     slot: usize,
 ) -> Option<Place>
-    requires same_table { IsPassOf words.now holding.old }
-    requires key { words.now.key ≡ key.now }
+    requires pass { IsPassIn words.now key.now holding.old }
     requires slot { slot < length (batch_slots (batch_of key.now.batch)) }
     ensures same { holding.new ≡ holding.old }
     ensures told { IsEndBelow (batch_of key.now.batch) holding.old.view slot result }

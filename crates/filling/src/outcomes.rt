@@ -10,7 +10,7 @@ ghost use Rattle.words.specs.Views.{In};
 ghost use Rattle.filling_base.specs.Extending.{IsSamePass};
 ghost use Rattle.filling_base.specs.References.{IsRevocation};
 ghost use Rattle.filling.specs.Outcomes.{IsEndedList, OutcomeMeans, ended_ranks_at, outcome_in};
-ghost use Rattle.filling.specs.Readings.{KnowsDone};
+ghost use Rattle.filling.specs.Readings.{IsPassIn, KnowsDone};
 
 use crate::ends::has_revocation;
 use crate::key::RangeKey;
@@ -31,8 +31,7 @@ fn load_own<K: BatchData>(
     index: usize,
     count: usize,
 ) -> [u64; MOST_OWN_WORDS]
-    requires same_table { IsPassOf words.now holding.old }
-    requires key { words.now.key ≡ key.now }
+    requires pass { IsPassIn words.now key.now holding.old }
     requires within { index < (K.batch words.now.key).size }
     requires known { In index holding.old.view.known }
     requires count { count ≡ words_length (K.batch words.now.key) index }
@@ -92,25 +91,6 @@ fn put_ended<'a>(
     Ok(())
 }
 
-// The names of the records whose listed ends are at the place, which the pass knows done. An error means out of memory.
-fn ended_names<'a>(
-    key: &RangeKey<'a>,
-    words: &BatchWords<RangeKey<'a>>,
-    holding: &mut Holding,
-    index: usize,
-) -> Result<Vec<RecordName>, AllocError>
-    requires done { KnowsDone words.now key.now holding.old index }
-    ensures same { holding.new ≡ holding.old }
-    ensures value { IfOk result (λ names. names.items ≡ ended_ranks_at (batch_of key.now.batch) key.now.slots index) }
-{
-    let _ends = key.ends();
-    let mut names = Vec::new(key.batch().alloc());
-    for number in 0..key.slots().len() {
-        put_ended(key, words, holding, index, number, &mut names)?;
-    }
-    Ok(names)
-}
-
 // The outcome that the own words of a place give, which the pass knows done. Of a revocation the records are given that it ended.
 fn outcome_told<'a>(
     key: &RangeKey<'a>,
@@ -154,7 +134,10 @@ fn ended_list<'a>(
     let _statement = batch.statement(index);
     let _slots = key.slots();
     let _ends = key.ends();
-    let names = ended_names(key, words, holding, index)?;
+    let mut names = Vec::new(batch.alloc());
+    for number in 0..key.slots().len() {
+        put_ended(key, words, holding, index, number, &mut names)?;
+    }
     Ok(Items::new(names))
 }
 

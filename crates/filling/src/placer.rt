@@ -65,8 +65,7 @@ fn place_statement<'a>(
     finder: &Finder,
     statement: &Statement,
 )
-    requires key { words.now.key ≡ key.now }
-    requires at { IsAt words.now token.old finder.now.latest statement.now }
+    requires at { IsAt words.now key.now token.old finder.now.latest statement.now }
     requires partition { token.old.view.partition < words.now.key.batch.partitions }
     requires tables { finder.now.tables.items ≡ tables_of statement.now.form }
     ensures { token.new ≡ placed_on token.old (with_placing token.old.view) }

@@ -23,7 +23,7 @@ pub enum Ran {
     Busy(Place),
     /// This partition hasn't placed the place.
     NotPlaced(usize),
-    /// memory ran out.
+    /// Memory ran out.
     NoMemory,
 }
 

@@ -52,8 +52,7 @@ pub(crate) fn store_rows<'a>(
     finder: &Finder,
     statement: &Statement,
 )
-    requires key { words.now.key ≡ key.now }
-    requires at { IsAt words.now token.old finder.now.latest statement.now }
+    requires at { IsAt words.now key.now token.old finder.now.latest statement.now }
     ensures only { OnlyStores token.old token.new }
     ensures stored { StoredBelow (batch_of words.now.key.batch) token.new.view (length (accesses_of statement.now.form)) }
 {
@@ -72,8 +71,7 @@ pub(crate) fn store_tables<'a>(
     finder: &Finder,
     statement: &Statement,
 )
-    requires key { words.now.key ≡ key.now }
-    requires at { IsAt words.now token.old finder.now.latest statement.now }
+    requires at { IsAt words.now key.now token.old finder.now.latest statement.now }
     requires tables { finder.now.tables.items ≡ tables_of statement.now.form }
     requires before { StoredBelow (batch_of words.now.key.batch) token.old.view (length (accesses_of statement.now.form)) }
     ensures only { OnlyStores token.old token.new }

@@ -22,7 +22,7 @@ pub enum Tried {
     Busy(usize),
     /// The partition hasn't placed the place.
     NotPlaced(usize),
-    /// memory ran out.
+    /// Memory ran out.
     NoMemory,
 }
 

@@ -25,6 +25,6 @@ pub(crate) enum Step {
     Went,
     /// The place of this index was held by another pass.
     Busy(usize),
-    /// memory ran out.
+    /// Memory ran out.
     NoMemory,
 }

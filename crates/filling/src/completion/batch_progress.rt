@@ -2,7 +2,17 @@
 
 use crate::completion::ends::Ends;
 use crate::completion::lists::Lists;
+use log_batch::LogBatch;
 use std::alloc::Global;
+use words::Closed;
+
+/// A batch that is completed from what its words had as they were closed.
+#[derive(Clone, Copy)]
+pub(crate) struct Completion<'a> {
+    pub(crate) alloc: Global,
+    pub(crate) batch: &'a LogBatch<'a>,
+    pub(crate) closed: &'a Closed,
+}
 
 /// The own words of the first places of a batch, and the ends of records that are known.
 #[derive(Drop)]

@@ -9,14 +9,14 @@ ghost use Rattle.words.specs.Closing.{IsSettledBy, claim_in};
 ghost use Rattle.filling.specs.Ends.{AreSerialEnds, NotesWord, noted_end};
 ghost use Rattle.filling.specs.BatchProgress.{ComesNext, HasDone, IsDoneTo, NotesEndsOfDone};
 
-use crate::completion::batch_progress::BatchProgress;
+use crate::completion::batch_progress::{BatchProgress, Completion};
 use crate::completion::ends::Ends;
 use crate::completion::places::judge;
 use crate::key::RangeKey;
 use log_batch::{LogBatch, words_length};
 use model_base::Place;
 use own_words::OwnWords;
-use std::alloc::{AllocError, Global};
+use std::alloc::AllocError;
 use words::{BatchData, Closed, DONE};
 
 /// Tells the end of a slot's record, if it has one.
@@ -65,23 +65,22 @@ fn copy_words(batch: &LogBatch<'_>, closed: &Closed, index: usize, words: &mut O
 /// Completes a place after those below it: what a closed batch has of it if it is done there, or else it is run. Its own words are gathered
 /// together in the room that is lent. An error means out of memory.
 pub(crate) fn complete(
-    alloc: Global,
-    batch: &LogBatch<'_>,
-    closed: &Closed,
+    completion: &Completion<'_>,
     index: usize,
     progress: &mut BatchProgress,
     words: &mut OwnWords,
 ) -> Result<(), AllocError>
-    requires next { ComesNext (batch_of batch.now) closed.now index progress.old }
-    requires closed { HasDone (batch_of batch.now) closed.now }
-    requires done { NotesEndsOfDone (batch_of batch.now) closed.now progress.old.ends }
-    ensures done { OnOk result (NotesEndsOfDone (batch_of batch.now) closed.now progress.new.ends) }
-    ensures stands { OnOk result (IsDoneTo (batch_of batch.now) (suc index) progress.new) }
+    requires next { ComesNext (batch_of completion.now.batch.now) completion.now.closed.now index progress.old }
+    requires closed { HasDone (batch_of completion.now.batch.now) completion.now.closed.now }
+    requires done { NotesEndsOfDone (batch_of completion.now.batch.now) completion.now.closed.now progress.old.ends }
+    ensures done { OnOk result (NotesEndsOfDone (batch_of completion.now.batch.now) completion.now.closed.now progress.new.ends) }
+    ensures stands { OnOk result (IsDoneTo (batch_of completion.now.batch.now) (suc index) progress.new) }
 {
+    let closed = completion.closed;
     if closed.claim(index) != DONE {
-        return judge(alloc, batch, closed, index, progress, words);
+        return judge(completion, index, progress, words);
     }
-    copy_words(batch, closed, index, words);
+    copy_words(completion.batch, closed, index, words);
     progress.words.push(words.as_slice())?;
     Ok(())
 }

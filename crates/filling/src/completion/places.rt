@@ -9,7 +9,7 @@ ghost use Rattle.log_batch.specs.Supplied.{batch_of};
 ghost use Rattle.filling.specs.Ends.{AreEndedBy, AreSerialEnds, KeepsNoted, NotesEndsOf, noted_end};
 ghost use Rattle.filling.specs.BatchProgress.{ComesNext, IsDoneTo};
 
-use crate::completion::batch_progress::BatchProgress;
+use crate::completion::batch_progress::{BatchProgress, Completion};
 use crate::completion::below::Below;
 use crate::completion::ends::Ends;
 use bohm_core_base::records_end_by_done_places;
@@ -17,38 +17,34 @@ use evaluation::{ends_by_source, was_done, words_by_source};
 use log_batch::LogBatch;
 use model_base::RecordName;
 use own_words::OwnWords;
-use std::alloc::{AllocError, Global};
-use words::Closed;
+use std::alloc::AllocError;
 
 /// Writes the own words of a place in the place of those that were there.
 fn judge_words(
-    batch: &LogBatch<'_>,
-    closed: &Closed,
-    progress: &BatchProgress,
+    completion: &Completion<'_>,
     index: usize,
+    progress: &BatchProgress,
     words: &mut OwnWords,
 )
-    requires next { ComesNext (batch_of batch.now) closed.now index progress.now }
-    ensures { words.new ≡ serial_words (batch_of batch.now) index }
+    requires next { ComesNext (batch_of completion.now.batch.now) completion.now.closed.now index progress.now }
+    ensures { words.new ≡ serial_words (batch_of completion.now.batch.now) index }
 {
-    let place = Below::new(batch, closed, progress, index);
-    let _ = words_by_source(batch, place, words);
+    let place = Below::new(completion.batch, completion.closed, progress, index);
+    let _ = words_by_source(completion.batch, place, words);
 }
 
 /// The names of the records that a place ends that was done.
 fn judged_ends(
-    alloc: Global,
-    batch: &LogBatch<'_>,
-    closed: &Closed,
-    progress: &BatchProgress,
+    completion: &Completion<'_>,
     index: usize,
+    progress: &BatchProgress,
 ) -> Result<Vec<RecordName>, AllocError>
-    requires next { ComesNext (batch_of batch.now) closed.now index progress.now }
-    requires done { was_done (serial_words (batch_of batch.now) index) ≡ true }
-    ensures { IfOk result (λ names. AreEndedBy (batch_of batch.now) index names.items) }
+    requires next { ComesNext (batch_of completion.now.batch.now) completion.now.closed.now index progress.now }
+    requires done { was_done (serial_words (batch_of completion.now.batch.now) index) ≡ true }
+    ensures { IfOk result (λ names. AreEndedBy (batch_of completion.now.batch.now) index names.items) }
 {
-    let place = Below::new(batch, closed, progress, index);
-    let (_, names) = ends_by_source(alloc, batch, place);
+    let place = Below::new(completion.batch, completion.closed, progress, index);
+    let (_, names) = ends_by_source(completion.alloc, completion.batch, place);
     names
 }
 
@@ -97,24 +93,23 @@ fn note_ends(
 
 /// Tells the ends that a place with these own words sets.
 fn judge_ends(
-    alloc: Global,
-    batch: &LogBatch<'_>,
-    closed: &Closed,
-    words: &[u64],
+    completion: &Completion<'_>,
     index: usize,
     progress: &mut BatchProgress,
+    words: &[u64],
 ) -> Result<(), AllocError>
-    requires next { ComesNext (batch_of batch.now) closed.now index progress.old }
-    requires words { words.now ≡ serial_words (batch_of batch.now) index }
-    ensures told { OnOk result (AreSerialEnds (batch_of batch.now) progress.new.ends) }
+    requires next { ComesNext (batch_of completion.now.batch.now) completion.now.closed.now index progress.old }
+    requires words { words.now ≡ serial_words (batch_of completion.now.batch.now) index }
+    ensures told { OnOk result (AreSerialEnds (batch_of completion.now.batch.now) progress.new.ends) }
     ensures kept { OnOk result (KeepsNoted progress.old.ends progress.new.ends) }
-    ensures all { OnOk result (NotesEndsOf (batch_of batch.now) index progress.new.ends) }
+    ensures all { OnOk result (NotesEndsOf (batch_of completion.now.batch.now) index progress.new.ends) }
     ensures words { OnOk result (progress.new.words ≡ progress.old.words) }
 {
     records_end_by_done_places();
+    let batch = completion.batch;
     let _log = batch.log();
     if was_done(words) {
-        let names = judged_ends(alloc, batch, closed, progress, index)?;
+        let names = judged_ends(completion, index, progress)?;
         note_ends(batch, names.as_slice(), index, &mut progress.ends)?;
     }
     Ok(())
@@ -122,19 +117,17 @@ fn judge_ends(
 
 /// Runs a place after those below it. Its own words are gathered together in the room that is lent. An error means out of memory.
 pub(crate) fn judge(
-    alloc: Global,
-    batch: &LogBatch<'_>,
-    closed: &Closed,
+    completion: &Completion<'_>,
     index: usize,
     progress: &mut BatchProgress,
     words: &mut OwnWords,
 ) -> Result<(), AllocError>
-    requires next { ComesNext (batch_of batch.now) closed.now index progress.old }
-    ensures stands { OnOk result (IsDoneTo (batch_of batch.now) (suc index) progress.new) }
+    requires next { ComesNext (batch_of completion.now.batch.now) completion.now.closed.now index progress.old }
+    ensures stands { OnOk result (IsDoneTo (batch_of completion.now.batch.now) (suc index) progress.new) }
     ensures kept { OnOk result (KeepsNoted progress.old.ends progress.new.ends) }
 {
-    judge_words(batch, closed, progress, index, words);
-    judge_ends(alloc, batch, closed, words.as_slice(), index, progress)?;
+    judge_words(completion, index, progress, words);
+    judge_ends(completion, index, progress, words.as_slice())?;
     progress.words.push(words.as_slice())?;
     Ok(())
 }

@@ -5,31 +5,25 @@ ghost use Rattle.log_batch.specs.Supplied.{batch_of};
 ghost use Rattle.words.specs.Closing.{HasItsReferences, IsSettledBy};
 ghost use Rattle.filling.specs.BatchProgress.{HasDone, IsDoneTo, NotesEndsOfDone};
 
-use crate::completion::batch_progress::BatchProgress;
+use crate::completion::batch_progress::{BatchProgress, Completion};
 use crate::completion::copying::{complete, take_ends};
 use crate::completion::finished::Finished;
 use crate::key::RangeKey;
-use log_batch::LogBatch;
 use own_words::OwnWords;
 use std::alloc::{AllocError, Global};
 use words::Closed;
 
 /// Completes all places, after what a closed batch has of those that are done.
-fn complete_all(
-    alloc: Global,
-    batch: &LogBatch<'_>,
-    closed: &Closed,
-    progress: &mut BatchProgress,
-) -> Result<(), AllocError>
-    requires closed { HasDone (batch_of batch.now) closed.now }
-    requires references { HasItsReferences (batch_of batch.now) closed.now }
-    requires done { NotesEndsOfDone (batch_of batch.now) closed.now progress.old.ends }
-    requires stands { IsDoneTo (batch_of batch.now) 0 progress.old }
-    ensures { OnOk result (IsDoneTo (batch_of batch.now) batch.now.size progress.new) }
+fn complete_all(completion: &Completion<'_>, progress: &mut BatchProgress) -> Result<(), AllocError>
+    requires closed { HasDone (batch_of completion.now.batch.now) completion.now.closed.now }
+    requires references { HasItsReferences (batch_of completion.now.batch.now) completion.now.closed.now }
+    requires done { NotesEndsOfDone (batch_of completion.now.batch.now) completion.now.closed.now progress.old.ends }
+    requires stands { IsDoneTo (batch_of completion.now.batch.now) 0 progress.old }
+    ensures { OnOk result (IsDoneTo (batch_of completion.now.batch.now) completion.now.batch.now.size progress.new) }
 {
     let mut words = OwnWords::new();
-    for index in 0..batch.size() {
-        complete(alloc, batch, closed, index, progress, &mut words)?;
+    for index in 0..completion.batch.size() {
+        complete(completion, index, progress, &mut words)?;
     }
     Ok(())
 }
@@ -58,6 +52,11 @@ pub fn finish<'a>(
         ≡ record { log = key.entry.batch.log; first = key.entry.batch.first; size = key.entry.batch.size }) }
 {
     let mut progress = taken(alloc, &key, closed)?;
-    complete_all(alloc, key.batch(), closed, &mut progress)?;
+    let completion = Completion {
+        alloc,
+        batch: key.batch(),
+        closed,
+    };
+    complete_all(&completion, &mut progress)?;
     Finished::of(alloc, key.into_batch(), progress)
 }

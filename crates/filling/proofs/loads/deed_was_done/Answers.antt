@@ -16,7 +16,7 @@ pub own-requires-clause-within : goal.own-requires-clause-within
 own-requires-clause-within g c =
     let before = c.requires.deed.before in
     let within = c.requires.within in
-    let sound = subst (λ key. IsSoundBatch (g.K.BatchData.batch key)) (sym c.requires.key) c.places-places.ensures.sound in
+    let sound = subst (λ key. IsSoundBatch (g.K.BatchData.batch key)) (sym c.requires.pass.key) c.places-places.ensures.sound in
     (omega arith, word-there (g.K.BatchData.batch c.args.words.now.key) sound c.args.index)
 
 pub own-requires-clause-known : goal.own-requires-clause-known

@@ -10,7 +10,7 @@ pub returns-in-Some-clause-told : goal.returns-in-Some-clause-told
 returns-in-Some-clause-told c =
     let b = batch_of c.args.key.now.batch in
     let view = c.args.holding.now.view in
-    let tells = subst (λ (k : Key). EndMeans (batch_of k.batch) (listed_slot_at k.slots c.in-Some.end) view c.end.result) c.requires.key c.end.ensures.tells in
+    let tells = subst (λ (k : Key). EndMeans (batch_of k.batch) (listed_slot_at k.slots c.in-Some.end) view c.end.result) c.requires.pass.key c.end.ensures.tells in
     end-word b view c.args.slot (listed_slot_at c.args.key.now.slots c.in-Some.end) c.end.result c.in-Some.ensures.1 tells
 
 pub returns-in-None-clause-told : goal.returns-in-None-clause-told

@@ -9,7 +9,7 @@ use Rattle.words.specs.Views.{In}
 use Rattle.filling.proofs.outcomes.load_own.Goals as goal
 
 pub own-requires-clause-same_table : goal.own-requires-clause-same_table
-own-requires-clause-same_table g c = subst (λ (pass : PassState). IsPassOf c.args.words.now pass) (sym c.loop-number.invariant.same) c.requires.same_table
+own-requires-clause-same_table g c = subst (λ (pass : PassState). IsPassOf c.args.words.now pass) (sym c.loop-number.invariant.same) c.requires.pass.same_table
 
 pub own-requires-clause-known : goal.own-requires-clause-known
 own-requires-clause-known g c = subst (λ (pass : PassState). In c.args.index pass.view.known) (sym c.loop-number.invariant.same) c.requires.known
@@ -22,7 +22,7 @@ returns-clause-value g c =
     let invariant = c.loop-number.invariant in
     let wide = invariant.long in
     let few = c.requires.few in
-    let sound = subst (λ key. IsSoundBatch (g.K.BatchData.batch key)) (sym c.requires.key) c.places-places.ensures.sound in
+    let sound = subst (λ key. IsSoundBatch (g.K.BatchData.batch key)) (sym c.requires.pass.key) c.places-places.ensures.sound in
     let long : length (take count own) ≡ count = length-take-le count own (omega arith) in
     same_number_lists (take count own) (serial_words b c.args.index) (long ∙ c.requires.count ∙ sym (serial-length b sound c.args.index))
     (λ k low. get_or-take count own k 0 (omega arith) ∙ invariant.own k (omega arith))

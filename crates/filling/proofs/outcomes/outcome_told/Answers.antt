@@ -6,6 +6,9 @@ use Rattle.filling.specs.Outcomes.{IsEndedList, outcome_in}
 use Rattle.filling.proofs.Decoding.{told-outcome}
 use Rattle.filling.proofs.outcomes.outcome_told.Goals as goal
 
+pub load_own-own-requires-clause-pass : goal.load_own-own-requires-clause-pass
+load_own-own-requires-clause-pass c = record { same_table = c.requires.done.same_table; key = c.requires.done.key }
+
 pub returns-clause-value : goal.returns-clause-value
 returns-clause-value c =
     let ranged = c.batch-batch.result.now in

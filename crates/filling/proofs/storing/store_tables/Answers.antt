@@ -16,19 +16,20 @@ use Rattle.filling.proofs.storing.store_tables.Goals as goal
 pub store_reference-requires-clause-number : goal.store_reference-requires-clause-number
 store_reference-requires-clause-number c =
     let words = c.args.words.now in
+    let key = c.args.key.now in
     let ranged = words.key.batch in
     let latest = c.args.finder.now.latest in
     let statement = c.args.statement.now in
     let token = c.loop-number.token in
     let number = c.loop-number.number in
-    let at : IsAt words token latest statement = at-stays words c.args.token.now token latest statement c.loop-number.invariant.0 c.requires.at in
+    let at : IsAt words key token latest statement = at-stays words key c.args.token.now token latest statement c.loop-number.invariant.0 c.requires.at in
     let table = c.table-item.result in
     let all = c.tables-table-items.ensures ∙ c.requires.tables in
     let within : number < length (tables_of statement.form) = (let same = ap (λ (list : List ℕ). length list) all in omega arith) in
     let here : table ≡ get_or (tables_of statement.form) number 0 =
     get_or_read (tables_of statement.form) number table within (c.table-item.is ∙ ap (λ (list : List ℕ). get_or list number table) all) 0 in
     let partitions : c.partition_count-partitions.result ≡ ranged.partitions =
-    c.partition_count-partitions.ensures.value ∙ ap (λ (r : LogRange). r.partitions) (c.batch.ensures ∙ ap (λ (k : Key). k.batch) (sym c.requires.key)) in
+    c.partition_count-partitions.ensures.value ∙ ap (λ (r : LogRange). r.partitions) (c.batch.ensures ∙ ap (λ (k : Key). k.batch) (sym c.requires.at.key)) in
     let into : c.partition_of_table-partition.result ≡ table_partition ranged.partitions table =
     c.partition_of_table-partition.ensures.value ∙ ap (λ n. table_partition n table) partitions in
     let count = references-count ranged at.of_log (front_in token.view) statement at.at in
@@ -38,19 +39,20 @@ store_reference-requires-clause-number c =
 pub store_reference-requires-clause-partition : goal.store_reference-requires-clause-partition
 store_reference-requires-clause-partition c =
     let words = c.args.words.now in
+    let key = c.args.key.now in
     let ranged = words.key.batch in
     let latest = c.args.finder.now.latest in
     let statement = c.args.statement.now in
     let token = c.loop-number.token in
     let number = c.loop-number.number in
-    let at : IsAt words token latest statement = at-stays words c.args.token.now token latest statement c.loop-number.invariant.0 c.requires.at in
+    let at : IsAt words key token latest statement = at-stays words key c.args.token.now token latest statement c.loop-number.invariant.0 c.requires.at in
     let table = c.table-item.result in
     let all = c.tables-table-items.ensures ∙ c.requires.tables in
     let within : number < length (tables_of statement.form) = (let same = ap (λ (list : List ℕ). length list) all in omega arith) in
     let here : table ≡ get_or (tables_of statement.form) number 0 =
     get_or_read (tables_of statement.form) number table within (c.table-item.is ∙ ap (λ (list : List ℕ). get_or list number table) all) 0 in
     let partitions : c.partition_count-partitions.result ≡ ranged.partitions =
-    c.partition_count-partitions.ensures.value ∙ ap (λ (r : LogRange). r.partitions) (c.batch.ensures ∙ ap (λ (k : Key). k.batch) (sym c.requires.key)) in
+    c.partition_count-partitions.ensures.value ∙ ap (λ (r : LogRange). r.partitions) (c.batch.ensures ∙ ap (λ (k : Key). k.batch) (sym c.requires.at.key)) in
     let into : c.partition_of_table-partition.result ≡ table_partition ranged.partitions table =
     c.partition_of_table-partition.ensures.value ∙ ap (λ n. table_partition n table) partitions in
     into
@@ -60,23 +62,24 @@ store_reference-requires-clause-partition c =
 pub store_reference-requires-clause-right : goal.store_reference-requires-clause-right
 store_reference-requires-clause-right c = λ mine.
     let words = c.args.words.now in
+    let key = c.args.key.now in
     let ranged = words.key.batch in
     let latest = c.args.finder.now.latest in
     let statement = c.args.statement.now in
     let token = c.loop-number.token in
     let number = c.loop-number.number in
-    let at : IsAt words token latest statement = at-stays words c.args.token.now token latest statement c.loop-number.invariant.0 c.requires.at in
+    let at : IsAt words key token latest statement = at-stays words key c.args.token.now token latest statement c.loop-number.invariant.0 c.requires.at in
     let table = c.table-item.result in
     let all = c.tables-table-items.ensures ∙ c.requires.tables in
     let within : number < length (tables_of statement.form) = (let same = ap (λ (list : List ℕ). length list) all in omega arith) in
     let here : table ≡ get_or (tables_of statement.form) number 0 =
     get_or_read (tables_of statement.form) number table within (c.table-item.is ∙ ap (λ (list : List ℕ). get_or list number table) all) 0 in
     let partitions : c.partition_count-partitions.result ≡ ranged.partitions =
-    c.partition_count-partitions.ensures.value ∙ ap (λ (r : LogRange). r.partitions) (c.batch.ensures ∙ ap (λ (k : Key). k.batch) (sym c.requires.key)) in
+    c.partition_count-partitions.ensures.value ∙ ap (λ (r : LogRange). r.partitions) (c.batch.ensures ∙ ap (λ (k : Key). k.batch) (sym c.requires.at.key)) in
     let into : c.partition_of_table-partition.result ≡ table_partition ranged.partitions table =
     c.partition_of_table-partition.ensures.value ∙ ap (λ n. table_partition n table) partitions in
     ap (λ reference. word_of ranged.first reference) c.prior.ensures
-    ∙ found-table words token latest statement at number table within here (sym into ∙ mine)
+    ∙ found-table words key token latest statement at number table within here (sym into ∙ mine)
     ∙ ap (λ (list : List Access). reference_at (batch_of ranged) (front_in token.view) (length list + number)) (sym c.accesses-rows.ensures)
 
 pub store_reference-requires-clause-before : goal.store_reference-requires-clause-before

@@ -9,6 +9,9 @@ use Rattle.words.specs.Passes.{PassState}
 use Rattle.filling.specs.Readings.{IsReadingPass, PlaceReading, reader_in, work_of}
 use Rattle.filling.proofs.reader.PassReaderReadSource.end.Goals as goal
 
+pub end_at-requires-clause-pass : goal.end_at-requires-clause-pass
+end_at-requires-clause-pass g c = record { same_table = c.self.invariant.reads.same_table; key = c.self.invariant.reads.key }
+
 pub end_at-requires-clause-slot : goal.end_at-requires-clause-slot
 end_at-requires-clause-slot g c =
     subst (λ (reading : PlaceReading). c.args.slot < length (batch_slots (batch_of reading.ranged))) (sym c.self.view_is) c.requires.slot

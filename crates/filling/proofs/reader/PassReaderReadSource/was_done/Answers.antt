@@ -10,6 +10,9 @@ use Rattle.filling.specs.Readings.{PlaceReading, reader_in, work_of}
 use Rattle.filling.proofs.Telling.{reading-found}
 use Rattle.filling.proofs.reader.PassReaderReadSource.was_done.Goals as goal
 
+pub deed_was_done-requires-clause-pass : goal.deed_was_done-requires-clause-pass
+deed_was_done-requires-clause-pass g c = record { same_table = c.self.invariant.reads.same_table; key = c.self.invariant.reads.key }
+
 pub deed_was_done-requires-clause-within : goal.deed_was_done-requires-clause-within
 deed_was_done-requires-clause-within g c =
     subst (λ (k : Key). c.self.inside.index < k.batch.size) (sym c.self.invariant.reads.key) c.self.invariant.reads.within

@@ -1,7 +1,7 @@
 use Rattle.std.proofs.Common.{◌≡◌, ◌++◌, drop}
 use Rattle.log_batch.specs.Supplied.{batch_of}
 use Rattle.filling.specs.Outcomes.{ended_ranks_at}
-use Rattle.filling.proofs.outcomes.ended_names.Given as goal
+use Rattle.filling.proofs.outcomes.ended_list.Given as goal
 
 -- with the ranks by the ends to come these are all
 abbrev pub invariant-loop-number : goal.invariant-loop-number
