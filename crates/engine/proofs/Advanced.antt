@@ -1,6 +1,6 @@
 -- One batch more.
-use Rattle.std.proofs.Common.{◌≡◌, ◌<◌, ◌≤◌, ◌+◌, ◌-◌, ◌++◌, ℕ, zero, suc, List, [], ◌∷◌, Some, get_or, length, map, refl, ap, sym, ◌∙◌, subst, arith}
-use Rattle.std.specs.Prelude.{IfSome}
+use Rattle.std.proofs.Common.{◌≡◌, ◌<◌, ◌≤◌, ◌+◌, ◌-◌, ◌++◌, ℕ, zero, suc, List, [], ◌∷◌, Some, get_or, length, map, refl, ap, sym, ◌∙◌, subst, arith, append_assoc}
+use Rattle.std.specs.Prelude.{IfSome, Ok}
 use Rattle.std.specs.List.{range_with_len}
 use Rattle.std.proofs.lemmas.List.{length-append, map-append}
 use Rattle.std.proofs.lemmas.List.Elements.{All-nil}
@@ -18,7 +18,9 @@ use Rattle.engine.specs.Known.{AreKnown, AreNamed}
 use Rattle.engine.specs.RunState.{IsRunState}
 use Rattle.engine.proofs.Came.{came_at, came_count}
 use Rattle.filling.specs.FinishedRange.{AreOutcomes}
-use Rattle.engine.specs.Engine.{IsRunKept, IsRun, Run, finished}
+use Rattle.engine.specs.Engine.{IsRunKept, IsRun, Run, RunsTo, finished}
+use Rattle.engine.specs.Running.{HasRun}
+use Rattle.engine.specs.declared.state.RunState.{RunState}
 
 ranges : (first count more : ℕ) → range_with_len first (count + more) ≡ range_with_len first count ++ range_with_len (first + count) more
 ranges first zero more =
@@ -65,6 +67,44 @@ module _ (log : Accepted) (outcomes later all : List Outcome) (end : ℕ) (is : 
     stands = subst (λ (n : ℕ). IsRunState log.statements n store book) (sym ends_at) stands;
     came = subst (λ (n : ℕ). AreOutcomes log.statements 0 n all) (sym ends_at) (came_to came);
     dropped = omega (arith, low, less, ends_at);
+  }
+
+-- the run of this state, of which these outcomes were dropped and those are kept
+abbrev run_in : Tail → RunState → List Outcome → List Outcome → Run
+run_in tail state past kept = record { log = tail.log; store = state.chains; book = state.book; outcomes = past ++ kept; dropped = tail.dropped }
+
+-- the range from the first place that isn't finished to an end was run
+module _ (tail : Tail) (before after : RunState) (past kept all : List Outcome) (run : Run) (seen : run_in tail before past kept ≡ run)
+    (is : IsRunKept (run_in tail before past kept) past) (start end : ℕ) (count : start ≡ finished run) (order : finished run ≤ end)
+    (within : end ≤ length run.log.statements) (has : HasRun tail.log.statements start end before after kept all) where
+  abbrev later : List Outcome
+  later = has.came.0
+
+  joined : past ++ all ≡ (past ++ kept) ++ later
+  joined = ap (λ os. past ++ os) has.came.1 ∙ sym (append_assoc past kept later)
+
+  less : length (past ++ kept) ≤ end
+  less = subst (λ (r : Run). finished r ≤ end) (sym seen) order
+
+  next : AreOutcomes tail.log.statements (length (past ++ kept)) (end - length (past ++ kept)) later
+  next = subst (λ (n : ℕ). AreOutcomes tail.log.statements n (end - n) later) (count ∙ ap finished (sym seen)) has.came.2
+
+  pub kept_to : IsRunKept (run_in tail after past all) past
+  kept_to = record {
+    is = advanced tail.log (past ++ kept) later (past ++ all) end joined less next after.chains after.book tail.dropped is.is.dropped
+        (subst (λ (r : Run). end ≤ length r.log.statements) (sym seen) within) is.is.known is.is.named has.stands is.is.came;
+    same = is.same;
+  }
+
+  pub runs_to : {E : Type 0} → RunsTo {E = E} end (Ok tt) run (run_in tail after past all)
+  runs_to = record {
+    ends = ends_at tail.log (past ++ kept) later (past ++ all) end joined less next;
+    stands = has.stands;
+    came = came_to tail.log (past ++ kept) later (past ++ all) end joined less next is.is.came;
+    mark = has.mark ∙ ap (λ (r : Run). r.store.mark) seen;
+    log = ap (λ (r : Run). r.log) seen;
+    dropped = ap (λ (r : Run). r.dropped) seen;
+    err = tt;
   }
 
 -- the outcome of a finished place

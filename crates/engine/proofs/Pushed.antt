@@ -12,6 +12,7 @@ use Rattle.log_text.specs.declared.version.Version.{Version}
 use Rattle.sequencer.specs.Catalog.{numbered}
 use Rattle.sequencer.specs.Foretelling.{IsForetold}
 use Rattle.sequencer.specs.Log.{Accepted, in_version, with_accepted}
+use Rattle.sequencer.specs.Pushing.{Pushes}
 use Rattle.sequencer.specs.Refusal.{refusal}
 use Rattle.sequencer.specs.Tail.{Tail}
 use Rattle.sequencer.specs.Whole.{IsWhole}
@@ -45,12 +46,13 @@ module _ (tail : Tail) (store : Store) (book : Entries) (outcomes : List Outcome
 
   -- so it is with the answer that takes it, or refuses it
   pub pushed : (past : List Outcome) → length past ≡ tail.dropped → (sentence : Sentence) (after : Tail) (result : Result ℕ Refused)
-      → OnOk result (after ≡ record tail { log = with_accepted tail.log sentence }) → OnOk result (refusal tail.log.names sentence ≡ None) → OnErr result (after ≡ tail)
+      → Pushes tail.log sentence result tail after (record tail { log = with_accepted tail.log sentence })
       → IsRunKept (run_of store book outcomes after.dropped after.log) past
-  pushed past same sentence after (Ok place) accepted passes err =
-      subst (λ (t : Tail). IsRunKept (run_of store book outcomes t.dropped t.log) past) (sym accepted) (record { is = one-more sentence passes; same = same })
-  pushed past same sentence after (Err refused) accepted passes err =
-      subst (λ (t : Tail). IsRunKept (run_of store book outcomes t.dropped t.log) past) (sym err) (record { is = run; same = same })
+  pushed past same sentence after (Ok place) pushes =
+      subst (λ (t : Tail). IsRunKept (run_of store book outcomes t.dropped t.log) past) (sym pushes.accepted)
+      (record { is = one-more sentence pushes.passes; same = same })
+  pushed past same sentence after (Err refused) pushes =
+      subst (λ (t : Tail). IsRunKept (run_of store book outcomes t.dropped t.log) past) (sym pushes.err) (record { is = run; same = same })
 
   -- so it is where a statement is taken as it was foretold, or memory was refused
   pub pushed_foretold : {E : Type 0} (past : List Outcome) → length past ≡ tail.dropped → (sentence : Sentence) (statement : Statement)
@@ -62,6 +64,29 @@ module _ (tail : Tail) (store : Store) (book : Entries) (outcomes : List Outcome
       (record { is = one-more sentence is.passes; same = same })
   pushed_foretold past same sentence statement is after (Err refused) accepted err =
       subst (λ (t : Tail). IsRunKept (run_of store book outcomes t.dropped t.log) past) (sym err) (record { is = run; same = same })
+
+-- what is pushed onto the log is pushed onto the run
+pub run_pushes : (tail after : Tail) (store : Store) (book : Entries) (outcomes : List Outcome) (run : Run) → run_of store book outcomes tail.dropped tail.log ≡ run
+    → (sentence : Sentence) (result : Result ℕ Refused) → Pushes tail.log sentence result tail after (record tail { log = with_accepted tail.log sentence })
+    → Pushes run.log sentence result run (run_of store book outcomes after.dropped after.log) (record run { log = with_accepted run.log sentence })
+run_pushes tail after store book outcomes run is sentence (Ok place) pushes =
+    subst (λ (r : Run). Pushes r.log sentence (Ok place) r (run_of store book outcomes after.dropped after.log) (record r { log = with_accepted r.log sentence })) is
+    (record {
+      place = pushes.place;
+      accepted = ap (λ (t : Tail). run_of store book outcomes t.dropped t.log) pushes.accepted;
+      passes = pushes.passes;
+      refused = tt;
+      err = tt;
+    })
+run_pushes tail after store book outcomes run is sentence (Err refused) pushes =
+    subst (λ (r : Run). Pushes r.log sentence (Err refused) r (run_of store book outcomes after.dropped after.log) (record r { log = with_accepted r.log sentence })) is
+    (record {
+      place = tt;
+      accepted = tt;
+      passes = tt;
+      refused = pushes.refused;
+      err = ap (λ (t : Tail). run_of store book outcomes t.dropped t.log) pushes.err;
+    })
 
 -- the version of the log says nothing of its places
 pub versioned : (tail : Tail) (store : Store) (book : Entries) (outcomes past : List Outcome) (version : Version)

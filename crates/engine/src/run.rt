@@ -1,15 +1,13 @@
 //! A log of which a beginning is finished.
 
-ghost use Rattle.std.specs.Prelude.{◌≡◌, ◌≢◌, ◌<◌, ◌≤◌, ◌+◌, ◌++◌, Err, OnErr, OnOk, length};
+ghost use Rattle.std.specs.Prelude.{◌≡◌, ◌≢◌, ◌<◌, ◌≤◌, ◌+◌, ◌++◌, Err, IfOk, OnErr, OnOk, false, length};
+ghost use Rattle.log_batch.specs.Supplied.{log_range};
 ghost use Rattle.engine.specs.Known.{AreKnown, AreNamed};
-ghost use Rattle.engine.specs.RunState.{IsRunState};
 ghost use Rattle.engine.specs.Running.{HasRun, IsNextRange};
-ghost use Rattle.filling.specs.FinishedRange.{AreOutcomes};
 
 use crate::commit::advance;
 use crate::crew::Crew;
 use crate::executing::execute;
-use crate::fault::EngineFault;
 use crate::grantees::recorded_grantees;
 use crate::in_order::run_in_order;
 use crate::remembering::RememberingBook;
@@ -17,7 +15,8 @@ use crate::state::RunState;
 use chains::{BadMark, Chains, Trimmed};
 use filling::{DecodedBatch, take};
 use grants::Book;
-use log_batch::{LogBatch, StateBefore};
+use line_io::EngineFault;
+use log_batch::{BatchRange, LogBatch, StateBefore};
 use log_text::{LineBuffers, RawStatement, Version};
 use model_base::{
     Grantee, HashSeed, Key, MOST_BATCH_STATEMENTS, MOST_PARTITIONS, MOST_PLACES, MOST_WORKERS,
@@ -76,6 +75,32 @@ struct Runner<'a, T, G> {
     gate: &'a G,
 }
 
+/// The next places of the log as a batch that isn't placed, after this state.
+fn open_range<'a>(
+    alloc: Global,
+    log: &'a LogTail,
+    state: &'a RunState,
+    range: Range<Place>,
+    partitions: usize,
+) -> Result<LogBatch<'a>, AllocError>
+    requires partitions { 0 < partitions }
+    requires few { partitions ≤ MOST_PARTITIONS }
+    requires next { IsNextRange log.now range.start range.end state.now }
+    ensures { IfOk result (λ batch. batch ≡ log_range log.now.log range.start range.end partitions false) }
+{
+    let before = StateBefore {
+        chains: &state.chains,
+        book: state.book.book(),
+    };
+    let places = BatchRange {
+        log,
+        before,
+        range,
+        partitions,
+    };
+    LogBatch::open(alloc, places)
+}
+
 /// Runs the places of a range: in order, on this thread, where there is one worker, and as a batch on shared words else. Appends their
 /// outcomes; the state is the one before the range's end then. After an error state and outcomes are as they were.
 fn run_range<T: Threads + Wait + Sync, G: Gate + Sync>(
@@ -113,11 +138,7 @@ fn run_range<T: Threads + Wait + Sync, G: Gate + Sync>(
         versions,
     } = {
         let partitions = crew.partitions.min(MOST_PARTITIONS);
-        let before = StateBefore {
-            chains: &state.chains,
-            book: state.book.book(),
-        };
-        let batch = LogBatch::open(alloc, log, before, start..end, partitions)?;
+        let batch = open_range(alloc, log, state, start..end, partitions)?;
         let done = execute(rt, alloc, batch, gate, crew.workers)?;
         take(alloc, log, &done, start..end)?
     };
@@ -144,8 +165,8 @@ impl Engine {
     ghost use Rattle.log_text.specs.Statement.{IsInGrammar, Sentence};
     ghost use Rattle.sequencer.specs.Foretelling.{IsForetold};
     ghost use Rattle.sequencer.specs.Log.{empty_log, in_version, with_accepted};
-    ghost use Rattle.sequencer.specs.Refusal.{IsRefusal, refusal};
-    ghost use Rattle.engine.specs.Engine.{IsRun, finished, may_run};
+    ghost use Rattle.sequencer.specs.Pushing.{Pushes};
+    ghost use Rattle.engine.specs.Engine.{IsRun, RunsTo, finished, may_run};
 
     /// An engine without places. It doesn't allocate.
     pub fn new(alloc: Global) -> Self
@@ -222,11 +243,8 @@ impl Engine {
     /// memory of a statement that was forgotten, where that is enough.
     #[inline(always)]
     pub fn push(&mut self, statement: &RawStatement<'_>) -> Result<Place, Refused>
-        ensures place { IfOk result (λ place. place ≡ length self.old.log.statements) }
-        ensures accepted { OnOk result (self.new ≡ record self.old { log = with_accepted self.old.log statement.now }) }
-        ensures passes { OnOk result (refusal self.old.log.names statement.now ≡ None) }
-        ensures refused { IfErr result (λ r. IsRefusal r (refusal self.old.log.names statement.now)) }
-        ensures err { OnErr result (self.new ≡ self.old) }
+        ensures { Pushes self.old.log statement.now result self.old self.new
+            (record self.old { log = with_accepted self.old.log statement.now }) }
     {
         let _dropped = self.log.dropped();
         self.log.push(statement)
@@ -236,11 +254,8 @@ impl Engine {
     #[inline(always)]
     pub fn push_read(&mut self, read: &LineBuffers<'_>) -> Result<Place, Refused>
         requires { IsInGrammar (sentence_of read.now) }
-        ensures place { IfOk result (λ place. place ≡ length self.old.log.statements) }
-        ensures accepted { OnOk result (self.new ≡ record self.old { log = with_accepted self.old.log (sentence_of read.now) }) }
-        ensures passes { OnOk result (refusal self.old.log.names (sentence_of read.now) ≡ None) }
-        ensures refused { IfErr result (λ r. IsRefusal r (refusal self.old.log.names (sentence_of read.now))) }
-        ensures err { OnErr result (self.new ≡ self.old) }
+        ensures { Pushes self.old.log (sentence_of read.now) result self.old self.new
+            (record self.old { log = with_accepted self.old.log (sentence_of read.now) }) }
     {
         let _dropped = self.log.dropped();
         self.log.push_read(read)
@@ -300,13 +315,7 @@ impl Engine {
         requires partitions { 0 < crew.partitions }
         requires order { finished self.old ≤ end }
         requires within { end ≤ length self.old.log.statements }
-        ensures ends { OnOk result (finished self.new ≡ end) }
-        ensures stands { OnOk result (IsRunState self.new.log.statements end self.new.store self.new.book) }
-        ensures came { OnOk result (AreOutcomes self.new.log.statements 0 end self.new.outcomes) }
-        ensures mark { OnOk result (self.new.store.mark ≡ self.old.store.mark) }
-        ensures log { self.new.log ≡ self.old.log }
-        ensures dropped { self.new.dropped ≡ self.old.dropped }
-        ensures err { OnErr result (self.new ≡ self.old) }
+        ensures runs { RunsTo end result self.old self.new }
         // One worker starts no thread.
         ensures alone { crew.workers ≤ 1 → result ≢ Err RunFault.Spawn }
     {
@@ -333,13 +342,7 @@ impl Engine {
     pub fn run_alone(&mut self, alloc: Global, end: Place) -> Result<(), AllocError>
         requires order { finished self.old ≤ end }
         requires within { end ≤ length self.old.log.statements }
-        ensures ends { OnOk result (finished self.new ≡ end) }
-        ensures stands { OnOk result (IsRunState self.new.log.statements end self.new.store self.new.book) }
-        ensures came { OnOk result (AreOutcomes self.new.log.statements 0 end self.new.outcomes) }
-        ensures mark { OnOk result (self.new.store.mark ≡ self.old.store.mark) }
-        ensures log { self.new.log ≡ self.old.log }
-        ensures dropped { self.new.dropped ≡ self.old.dropped }
-        ensures err { OnErr result (self.new ≡ self.old) }
+        ensures { RunsTo end result self.old self.new }
     {
         let start = self.finished();
         let _len = self.log.len();
@@ -381,13 +384,7 @@ impl Engine {
         ensures bad { (result ≡ Err EngineFault.BadSettings) ↔ (may_run self.old range.start range.end crew ≡ false) }
         ensures fault { IfErr result (λ f. (f ≡ EngineFault.BadSettings) ⊎ (f ≡ EngineFault.NoMemory) ⊎ (f ≡ EngineFault.Spawn)) }
         ensures alone { crew.workers ≤ 1 → result ≢ Err EngineFault.Spawn }
-        ensures ends { OnOk result (finished self.new ≡ range.end) }
-        ensures stands { OnOk result (IsRunState self.new.log.statements range.end self.new.store self.new.book) }
-        ensures came { OnOk result (AreOutcomes self.new.log.statements 0 range.end self.new.outcomes) }
-        ensures mark { OnOk result (self.new.store.mark ≡ self.old.store.mark) }
-        ensures log { self.new.log ≡ self.old.log }
-        ensures dropped { self.new.dropped ≡ self.old.dropped }
-        ensures err { OnErr result (self.new ≡ self.old) }
+        ensures runs { RunsTo range.end result self.old self.new }
     {
         if !self.may_run(&range, crew) {
             return Err(EngineFault::BadSettings);

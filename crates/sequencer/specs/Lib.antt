@@ -3,6 +3,7 @@ pub mod Catalog
 pub mod Refusal
 pub mod Known
 pub mod Log
+pub mod Pushing
 pub mod Whole
 pub mod Tail
 pub mod Admitting

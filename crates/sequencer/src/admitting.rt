@@ -216,12 +216,7 @@ impl Catalog {
                 steps,
                 deed,
             } => {
-                let run = RawRun {
-                    user,
-                    accesses: accesses.as_slice(),
-                    steps: steps.as_slice(),
-                    deed,
-                };
+                let run = RawRun::of(user, accesses, steps, deed);
                 self.admit_run(&run, room, kept)
             }
             RawForm::Deed(deed) => self.admit_deed(user, deed, kept),

@@ -177,12 +177,7 @@ impl Catalog {
                 steps,
                 deed,
             } => {
-                let run = RawRun {
-                    user,
-                    accesses: accesses.as_slice(),
-                    steps: steps.as_slice(),
-                    deed,
-                };
+                let run = RawRun::of(user, accesses, steps, deed);
                 self.foretell_run(recent, &run, room)
             }
             RawForm::Deed(deed) => self.foretell_deed(recent, user, deed),

@@ -26,10 +26,10 @@ impl Model for Log {
 }
 
 impl Log {
-    ghost use Rattle.std.specs.Prelude.{◌≡◌, ◌<◌, ◌≤◌, None, Some, length, slice_get, All, IfOk, IfErr, OnOk, OnErr};
+    ghost use Rattle.std.specs.Prelude.{◌≡◌, ◌<◌, ◌≤◌, Some, length, slice_get, All};
     ghost use Rattle.model_base.specs.Growing.{NeedsOwnTables};
-    ghost use Rattle.sequencer.specs.Refusal.{IsRefusal, refusal};
     ghost use Rattle.sequencer.specs.Log.{empty_log, in_version, with_accepted};
+    ghost use Rattle.sequencer.specs.Pushing.{Pushes};
     ghost use Rattle.sequencer.specs.Whole.{IsWhole};
 
     /// The log without statements. It doesn't allocate.
@@ -70,11 +70,7 @@ impl Log {
     /// Takes a statement as the next place, which is the length until then. The first test that it doesn't pass refuses it; one that passes
     /// is refused only for lack of memory. After a refusal the log is as it was.
     pub fn push(&mut self, statement: &RawStatement<'_>) -> Result<Place, Refused>
-        ensures place { IfOk result (λ place. place ≡ length self.old.statements) }
-        ensures accepted { OnOk result (self.new ≡ with_accepted self.old statement.now) }
-        ensures passes { OnOk result (refusal self.old.names statement.now ≡ None) }
-        ensures refused { IfErr result (λ r. IsRefusal r (refusal self.old.names statement.now)) }
-        ensures err { OnErr result (self.new ≡ self.old) }
+        ensures { Pushes self.old statement.now result self.old self.new (with_accepted self.old statement.now) }
     {
         if self.statements.reserve(1).is_err() {
             return Err(self.catalog.refused(statement));

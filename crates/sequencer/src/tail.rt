@@ -1,12 +1,12 @@
 //! The end of a log, of which the first statements aren't kept.
 
-ghost use Rattle.std.specs.Prelude.{◌≡◌, ◌<◌, ◌≤◌, None, Some, drop, length, slice_get, All, IfOk, IfErr, OnOk, OnErr};
+ghost use Rattle.std.specs.Prelude.{◌≡◌, ◌<◌, ◌≤◌, None, Some, drop, length, slice_get, All, IfOk, OnOk, OnErr};
 ghost use Rattle.log_text.specs.LineBuffers.{sentence_of};
 ghost use Rattle.log_text.specs.Statement.{IsInGrammar, Sentence};
 ghost use Rattle.model_base.specs.Growing.{NeedsOwnTables};
 ghost use Rattle.sequencer.specs.Foretelling.{IsForetold};
-ghost use Rattle.sequencer.specs.Refusal.{IsRefusal, refusal};
 ghost use Rattle.sequencer.specs.Log.{empty_log, in_version, with_accepted};
+ghost use Rattle.sequencer.specs.Pushing.{Pushes};
 ghost use Rattle.sequencer.specs.Whole.{IsWhole};
 
 use crate::catalog::Catalog;
@@ -121,11 +121,8 @@ impl LogTail {
     /// the memory of a dropped statement where that is enough.
     #[inline(always)]
     pub fn push(&mut self, statement: &RawStatement<'_>) -> Result<Place, Refused>
-        ensures place { IfOk result (λ place. place ≡ length self.old.log.statements) }
-        ensures accepted { OnOk result (self.new ≡ record self.old { log = with_accepted self.old.log statement.now }) }
-        ensures passes { OnOk result (refusal self.old.log.names statement.now ≡ None) }
-        ensures refused { IfErr result (λ r. IsRefusal r (refusal self.old.log.names statement.now)) }
-        ensures err { OnErr result (self.new ≡ self.old) }
+        ensures { Pushes self.old.log statement.now result self.old self.new
+            (record self.old { log = with_accepted self.old.log statement.now }) }
     {
         if self.kept.reserve(1).is_err() {
             return Err(self.catalog.refused(statement));
@@ -142,11 +139,8 @@ impl LogTail {
     fn push_run(&mut self, read: &LineBuffers<'_>) -> Result<Place, Refused>
         requires run { read.now.other ≡ None }
         requires grammar { IsInGrammar (sentence_of read.now) }
-        ensures place { IfOk result (λ place. place ≡ length self.old.log.statements) }
-        ensures accepted { OnOk result (self.new ≡ record self.old { log = with_accepted self.old.log (sentence_of read.now) }) }
-        ensures passes { OnOk result (refusal self.old.log.names (sentence_of read.now) ≡ None) }
-        ensures refused { IfErr result (λ r. IsRefusal r (refusal self.old.log.names (sentence_of read.now))) }
-        ensures err { OnErr result (self.new ≡ self.old) }
+        ensures { Pushes self.old.log (sentence_of read.now) result self.old self.new
+            (record self.old { log = with_accepted self.old.log (sentence_of read.now) }) }
     {
         if self.kept.reserve(1).is_err() {
             return Err(self.catalog.refused_run(read));
@@ -162,11 +156,8 @@ impl LogTail {
     #[inline(always)]
     pub fn push_read(&mut self, read: &LineBuffers<'_>) -> Result<Place, Refused>
         requires { IsInGrammar (sentence_of read.now) }
-        ensures place { IfOk result (λ place. place ≡ length self.old.log.statements) }
-        ensures accepted { OnOk result (self.new ≡ record self.old { log = with_accepted self.old.log (sentence_of read.now) }) }
-        ensures passes { OnOk result (refusal self.old.log.names (sentence_of read.now) ≡ None) }
-        ensures refused { IfErr result (λ r. IsRefusal r (refusal self.old.log.names (sentence_of read.now))) }
-        ensures err { OnErr result (self.new ≡ self.old) }
+        ensures { Pushes self.old.log (sentence_of read.now) result self.old self.new
+            (record self.old { log = with_accepted self.old.log (sentence_of read.now) }) }
     {
         match &read.other {
             Some(statement) => self.push(statement),

@@ -1,4 +1,14 @@
 use Rattle.engine.proofs.run.Engine.run_batch.Goals as goal
 
-pub returns-clause-ends : goal.returns-clause-ends
-returns-clause-ends g c = c.in_ok-run_to.ensures.ends
+pub returns-clause-runs : goal.returns-clause-runs
+returns-clause-runs g c =
+    let runs = c.in_ok-run_to.ensures.runs in
+    record {
+      ends = runs.ends;
+      stands = runs.stands;
+      came = runs.came;
+      mark = runs.mark;
+      log = runs.log;
+      dropped = runs.dropped;
+      err = tt;
+    }

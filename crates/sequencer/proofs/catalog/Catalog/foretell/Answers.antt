@@ -1,11 +1,14 @@
-use Rattle.std.proofs.Common.{sym, ◌∙◌}
+use Rattle.std.proofs.Common.{◌≡◌, subst, sym, ◌∙◌}
+use Rattle.std.specs.Prelude.{IfSome, OnSome}
+use Rattle.log_text.specs.Statement.{Sentence}
+use Rattle.sequencer.specs.Foretelling.{Knows, foretold_as}
 use Rattle.sequencer.proofs.Foretold.{foretells_parts}
 use Rattle.sequencer.proofs.catalog.Catalog.foretell.Goals as goal
 
 pub returns-in-Run : goal.returns-in-Run
 returns-in-Run c =
-    let knows = rw (c.as_slice.ensures, c.as_slice-in-Run.ensures) at c.foretell_run.ensures.knows in
-    let number = rw (c.as_slice.ensures, c.as_slice-in-Run.ensures) at c.foretell_run.ensures.number in
+    let knows = subst (λ (s : Sentence). OnSome c.foretell_run.result (Knows c.args.self.now s)) c.of-run.ensures c.foretell_run.ensures.knows in
+    let number = subst (λ (s : Sentence). IfSome c.foretell_run.result (λ f. f ≡ foretold_as c.args.self.now s)) c.of-run.ensures c.foretell_run.ensures.number in
     foretells_parts c.args.self.now c.args.statement.now _ _ _ c.tables-tables.ensures.columns c.name-user.ensures
     (sym c.in-Run.is ∙ c.form-2.ensures.value) knows number
 
