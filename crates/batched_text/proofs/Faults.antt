@@ -2,12 +2,15 @@
 use Rattle.std.proofs.Common.{◌≡◌, ◌<◌, ◌≤◌, ◌+◌, ℕ, Result, Ok, Err, refl, sym, ap, ◌∙◌, arith, inl, inr, subst}
 use Rattle.std.specs.Prelude.{IfErr, IsErrAnd, OnErr, OnOk}
 use Rattle.line_io.specs.Known.{raised}
+use Rattle.line_io.specs.declared.fault.EngineFault.{EngineFault}
 use Rattle.line_io.specs.declared.fault.ReadFault.{ReadFault}
-use Rattle.bohm_base.specs.Faults.{read_errors, write_errors}
-use Rattle.bohm_base.specs.declared.fault.EngineFault.{EngineFault}
-use Rattle.engine.specs.declared.fault.EngineFault.{EngineFault as RunFault}
-use Rattle.workers.specs.declared.fault.RunFault.{RunFault as BatchFault}
-use Rattle.batched_text.specs.Faults.{IsOfBatch, of_batch, of_text}
+use Rattle.bohm_base.specs.Faults.{IsFaultInOrder, read_errors, write_errors}
+use Rattle.workers.specs.Faults.{engine_fault}
+use Rattle.workers.specs.declared.fault.RunFault.{RunFault}
+use Rattle.batched_text.specs.Batching.{IsFaultOfBatch}
+use Rattle.batched_text.specs.Faults.{IsOfBatch, IsOfRun}
+use Rattle.batched_text.specs.declared.batching.Batching.{Batching}
+use Rattle.batched_text.specs.declared.history.Plan.{Plan}
 
 told_on : {B E : Type 0} (fault : E) (result : Result B E) → IsErrAnd result (λ other. other ≡ fault) → result ≡ Err fault
 told_on fault (Ok value) same = absurd same
@@ -29,6 +32,8 @@ write_counted A EngineFault.Read result written old mid new told is counted same
 write_counted A EngineFault.Write result written old mid new told is counted same more small =
     let one : mid ≡ old + 1 = omega (arith, counted, small) in
     omega (arith, one, errors_stay written mid new same more (omega (arith, one, small)))
+write_counted A EngineFault.BadSettings result written old mid new told is counted same more small =
+    absurd (cc (sym (told_on EngineFault.BadSettings result told) ∙ is))
 write_counted A EngineFault.Spawn result written old mid new told is counted same more small =
     absurd (cc (sym (told_on EngineFault.Spawn result told) ∙ is))
 
@@ -37,67 +42,54 @@ pub read_on : {A B : Type 0} (fault : ReadFault) (result : Result B ReadFault) �
     → first ≡ Err ReadFault.Read → result ≡ Err ReadFault.Read
 read_on fault result same first comes is = told_on fault result same ∙ ap Err (cc)
 
--- what an engine's fault says of a run
-pub read_told : {A : Type 0} (fault : EngineFault) (told : RunFault) (result : Result A RunFault) → told ≡ of_text fault → result ≡ Err told
-    → result ≡ Err RunFault.Read → fault ≡ EngineFault.Read
-read_told EngineFault.Read told result same comes is = refl
-read_told EngineFault.NoMemory told result same comes is = absurd (cc (ap Err (sym same) ∙ sym comes ∙ is))
-read_told EngineFault.Write told result same comes is = absurd (cc (ap Err (sym same) ∙ sym comes ∙ is))
-read_told EngineFault.Spawn told result same comes is = absurd (cc (ap Err (sym same) ∙ sym comes ∙ is))
+-- a fault of a batch that is passed on is one of a batch, and what was pending is
+pub stops_told : {A : Type 0} (plan : Plan) (old mid new : Batching) (fault : EngineFault) (result : Result A EngineFault)
+    → IsErrAnd result (λ other. other ≡ fault) → IsFaultOfBatch plan mid new fault → mid.pending.items ≡ old.pending.items
+    → IfErr result (IsFaultOfBatch plan old new)
+stops_told plan old mid new fault (Ok value) same stops kept = absurd same
+stops_told plan old mid new fault (Err other) same stops kept = (subst (IsOfBatch plan.settings.workers) (sym same) stops.0, stops.1 ∙ kept)
 
-pub write_told : {A : Type 0} (fault : EngineFault) (told : RunFault) (result : Result A RunFault) → told ≡ of_text fault → result ≡ Err told
-    → result ≡ Err RunFault.Write → fault ≡ EngineFault.Write
-write_told EngineFault.Write told result same comes is = refl
-write_told EngineFault.NoMemory told result same comes is = absurd (cc (ap Err (sym same) ∙ sym comes ∙ is))
-write_told EngineFault.Read told result same comes is = absurd (cc (ap Err (sym same) ∙ sym comes ∙ is))
-write_told EngineFault.Spawn told result same comes is = absurd (cc (ap Err (sym same) ∙ sym comes ∙ is))
+pub stops_memory : {A : Type 0} (plan : Plan) (old new : Batching) (result : Result A EngineFault) → IsErrAnd result (λ other. other ≡ EngineFault.NoMemory)
+    → new.pending.items ≡ old.pending.items → IfErr result (IsFaultOfBatch plan old new)
+stops_memory plan old new (Ok value) same kept = absurd same
+stops_memory plan old new (Err other) same kept = (inl same, kept)
 
-pub never_bad : {A : Type 0} (fault : EngineFault) (told : RunFault) (result : Result A RunFault) → told ≡ of_text fault → result ≡ Err told
-    → result ≡ Err RunFault.BadSettings → ⊥
-never_bad EngineFault.NoMemory told result same comes is = cc (ap Err (sym same) ∙ sym comes ∙ is)
-never_bad EngineFault.Read told result same comes is = cc (ap Err (sym same) ∙ sym comes ∙ is)
-never_bad EngineFault.Write told result same comes is = cc (ap Err (sym same) ∙ sym comes ∙ is)
-never_bad EngineFault.Spawn told result same comes is = cc (ap Err (sym same) ∙ sym comes ∙ is)
+-- so is the fault of the batch itself: no thread is started for one worker
+pub stops_batch : {A B : Type 0} (plan : Plan) (old new : Batching) (fault : RunFault) (found : Result B RunFault) (result : Result A EngineFault)
+    → found ≡ Err fault → IsErrAnd result (λ other. other ≡ engine_fault fault) → (plan.settings.workers ≤ 1 → found ≡ Err RunFault.Spawn → ⊥)
+    → new.pending.items ≡ old.pending.items → IfErr result (IsFaultOfBatch plan old new)
+stops_batch plan old new fault found (Ok value) is same alone kept = absurd same
+stops_batch plan old new RunFault.NoMemory found (Err other) is same alone kept = (inl same, kept)
+stops_batch plan old new RunFault.Spawn found (Err other) is same alone kept =
+    (inr (same, omega (arith, λ (one : plan.settings.workers ≤ 1). alone one is)), kept)
 
--- a fault of a batch that is passed on is one of a batch, and neither the reader's nor the writer's
-pub stops_told : {A : Type 0} {workers : ℕ} (fault : EngineFault) (result : Result A EngineFault) → IsErrAnd result (λ other. other ≡ fault)
-    → IsOfBatch workers fault → IfErr result (IsOfBatch workers)
-stops_told fault (Ok value) same stops = absurd same
-stops_told {workers = workers} fault (Err other) same stops = subst (IsOfBatch workers) (sym same) stops
+-- a fault of a batch is one of a run
+run_of : {workers : ℕ} (fault : EngineFault) → IsOfBatch workers fault → IsOfRun workers fault
+run_of fault (inl memory) = ((λ is. cc (sym is ∙ memory)), λ is. absurd (cc (sym is ∙ memory)))
+run_of fault (inr start) = ((λ is. cc (sym is ∙ start.0)), λ is. start.1)
 
-pub stops_memory : {A : Type 0} (workers : ℕ) (result : Result A EngineFault) → IsErrAnd result (λ other. other ≡ EngineFault.NoMemory)
-    → IfErr result (IsOfBatch workers)
-stops_memory workers (Ok value) same = absurd same
-stops_memory workers (Err other) same = inl same
+pub run_stops : {A : Type 0} {workers : ℕ} (fault : EngineFault) (result : Result A EngineFault) → IsErrAnd result (λ other. other ≡ fault)
+    → IsOfBatch workers fault → IfErr result (IsOfRun workers)
+run_stops fault (Ok value) same stops = absurd same
+run_stops {workers = workers} fault (Err other) same stops = run_of other (subst (IsOfBatch workers) (sym same) stops)
 
--- the fault of a batch is one of a batch: no thread is started for one worker
-pub stops_batch : {A : Type 0} {workers : ℕ} (fault : BatchFault) (result : Result A BatchFault) → result ≡ Err fault
-    → (workers ≤ 1 → result ≡ Err BatchFault.Spawn → ⊥) → IsOfBatch workers (of_batch fault)
-stops_batch BatchFault.NoMemory result is alone = inl refl
-stops_batch {workers = workers} BatchFault.Spawn result is alone = inr (refl, omega (arith, λ (one : workers ≤ 1). alone one is))
+-- and one that is passed on
+pub run_told : {A : Type 0} {workers : ℕ} (fault : EngineFault) (result : Result A EngineFault) → IsErrAnd result (λ other. other ≡ fault)
+    → IsOfRun workers fault → IfErr result (IsOfRun workers)
+run_told fault (Ok value) same run = absurd same
+run_told {workers = workers} fault (Err other) same run = subst (IsOfRun workers) (sym same) run
 
--- a thread is started for several workers alone
-pub several_of : {workers : ℕ} (fault : EngineFault) → IsOfBatch workers fault → fault ≡ EngineFault.Spawn → 1 < workers
-several_of fault (inl memory) is = absurd (cc (sym is ∙ memory))
-several_of fault (inr start) is = start.1
+-- a run doesn't find its settings bad, and starts no thread for one worker
+pub never_bad : {A : Type 0} (workers : ℕ) (result : Result A EngineFault) → IfErr result (IsOfRun workers) → result ≡ Err EngineFault.BadSettings → ⊥
+never_bad workers result run is = (subst (λ found. IfErr found (IsOfRun workers)) is run).0 refl
 
-pub several_told : {A : Type 0} {workers : ℕ} (fault : EngineFault) (result : Result A EngineFault) → IsErrAnd result (λ other. other ≡ fault)
-    → IsOfBatch workers fault → IfErr result (λ other. other ≡ EngineFault.Spawn → 1 < workers)
-several_told fault (Ok value) same stops = absurd same
-several_told fault (Err other) same stops = λ is. several_of fault stops (sym same ∙ is)
+pub one_alone : {A : Type 0} (workers : ℕ) (result : Result A EngineFault) → IfErr result (IsOfRun workers) → workers ≤ 1
+    → result ≡ Err EngineFault.Spawn → ⊥
+one_alone workers result run one is = omega (arith, (subst (λ found. IfErr found (IsOfRun workers)) is run).1 refl, one)
 
-pub several_kept : {A : Type 0} {workers : ℕ} (fault : EngineFault) (result : Result A EngineFault) → IsErrAnd result (λ other. other ≡ fault)
-    → (fault ≡ EngineFault.Spawn → 1 < workers) → IfErr result (λ other. other ≡ EngineFault.Spawn → 1 < workers)
-several_kept fault (Ok value) same several = absurd same
-several_kept fault (Err other) same several = λ is. several (sym same ∙ is)
-
--- what an engine's fault says of threads
-pub several_engine : {A : Type 0} {workers : ℕ} (fault : EngineFault) (told : RunFault) (result : Result A RunFault) → told ≡ of_text fault
-    → result ≡ Err told → (fault ≡ EngineFault.Spawn → 1 < workers) → workers ≤ 1 → result ≡ Err RunFault.Spawn → ⊥
-several_engine EngineFault.NoMemory told result same comes several one is = cc (ap Err (sym same) ∙ sym comes ∙ is)
-several_engine EngineFault.Read told result same comes several one is = cc (ap Err (sym same) ∙ sym comes ∙ is)
-several_engine EngineFault.Write told result same comes several one is = cc (ap Err (sym same) ∙ sym comes ∙ is)
-several_engine EngineFault.Spawn told result same comes several one is = omega (arith, several refl, one)
+pub in_order : {A : Type 0} (workers : ℕ) (result : Result A EngineFault) → IfErr result (IsOfRun workers) → workers ≤ 1 → IfErr result IsFaultInOrder
+in_order workers (Ok value) run one = tt
+in_order workers (Err fault) run one = (run.0, λ is. omega (arith, run.1 is, one))
 
 reads_of : {workers : ℕ} (A : Type 0) (fault : EngineFault) (errors : ℕ) → IsOfBatch workers fault → read_errors {A = A} (Err fault) errors ≡ errors
 reads_of A fault errors (inl memory) = ap (λ (f : EngineFault). read_errors {A = A} (Err f) errors) memory

@@ -12,7 +12,7 @@ use Rattle.sequencer.specs.Log.{Accepted}
 use Rattle.sequencer.proofs.Beginnings.{begins_further, begins_same}
 use Rattle.read_ahead.proofs.Cut.{took_at}
 use Rattle.bohm_base.specs.Pending.{HasBegunReport}
-use Rattle.bohm_base.specs.declared.fault.EngineFault.{EngineFault}
+use Rattle.line_io.specs.declared.fault.EngineFault.{EngineFault}
 use Rattle.engine.specs.Engine.{finished}
 use Rattle.batched_text.specs.Batching.{Deals, IsBatchReady, IsOpen, ReportsFirst}
 use Rattle.batched_text.specs.Faults.{IsOfBatch}

@@ -6,12 +6,13 @@ use Rattle.report.specs.Report.{ParsedLine}
 use Rattle.sequencer.specs.Log.{Accepted, empty_log}
 use Rattle.sequencer.specs.Whole.{IsWhole}
 use Rattle.bohm_base.specs.Collecting.{Collects, IsLogOf, AreReadBefore, line_outcome, report_text, with_reading}
-use Rattle.bohm_base.specs.Pending.{HasBegunReport, WritesBegunReport}
+use Rattle.bohm_base.specs.Pending.{HasBegunReport, ReportsInput, WritesBegunReport}
 use Rattle.bohm_base.specs.declared.collecting.LineOutcome.{LineOutcome}
-use Rattle.bohm_base.specs.declared.fault.EngineFault.{EngineFault}
+use Rattle.line_io.specs.declared.fault.EngineFault.{EngineFault}
 use Rattle.engine.specs.Engine.{Run, finished}
+use Rattle.batched_text.specs.Faults.{IsOfBatch}
 use Rattle.batched_text.specs.Places.{places_in}
-use Rattle.batched_text.specs.History.{IsCutBy, dropped_by}
+use Rattle.batched_text.specs.History.{IsCutBy, IsTrimmedBy, dropped_by}
 use Rattle.batched_text.specs.ReadBytes.{IfRead}
 use Rattle.batched_text.specs.Settings.{are_within_limits, mark_behind}
 use Rattle.batched_text.specs.declared.batching.Batching.{Batching}
@@ -92,6 +93,10 @@ pub record ReportsAll (plan : Plan) (old new : Batching) : Type 0 where
       else old.engine.store.mark)
   pub kept : new.engine.dropped ≡ dropped_by plan.history new.engine
 
+-- a fault of a batch, after which what was pending is
+abbrev pub IsFaultOfBatch : Plan → Batching → Batching → EngineFault → Type 0
+IsFaultOfBatch plan old new fault = IsOfBatch plan.settings.workers fault × (new.pending.items ≡ old.pending.items)
+
 -- no line was taken yet
 pub record IsFresh (batching : Batching) : Type 0 where
   pub log : batching.engine.log ≡ empty_log
@@ -102,6 +107,10 @@ pub record IsFresh (batching : Batching) : Type 0 where
   pub nobody : batching.waiting.items ≡ []
   pub number : batching.number ≡ 1
   pub nothing : batching.pending.items ≡ []
+
+-- nor is a setting outside its limits
+abbrev pub IsBeginning : Plan → Batching → Type 0
+IsBeginning plan batching = (are_within_limits plan.settings ≡ true) × IsFresh batching
 
 -- a further line can be dealt with
 pub record IsBatchReady (plan : Plan) (batching : Batching) (ahead given : ℕ) : Type 0 where
@@ -187,6 +196,10 @@ HasBegunReportOfRead input left old now pending = IfRead input left (λ given. H
 abbrev pub WritesBegunReportOfRead : Option (List ℕ) → Option (List ℕ) → Option (List ℕ) → Option (List ℕ) → Type 0
 WritesBegunReportOfRead input left old now = IfRead input left (λ given. WritesBegunReport (Some given) old now)
 
+-- of a run by its result: it reports the input, and what it wrote is also a beginning of the report of what was read
+abbrev pub ReportsRead : {A F : Type 0} → Option (List ℕ) → Option (List ℕ) → Option (List ℕ) → Option (List ℕ) → Result A F → Type 0
+ReportsRead input left old now result = ReportsInput input old now result × WritesBegunReportOfRead input left old now
+
 -- what a turn resulted in by its answer, whatever input is batched: one more line was taken, or there was none; and in any case a beginning
 -- of the report is written, also of the report of what was read
 pub record BatchedTurn (plan : Plan) (result : Result Bool EngineFault)
@@ -202,3 +215,11 @@ pub record BatchedTurn (plan : Plan) (result : Result Bool EngineFault)
 abbrev pub IsLogOfText : Option (List ℕ) → Accepted → Type 0
 IsLogOfText None log = ⊤
 IsLogOfText (Some input) log = (lines : List LineOutcome) × Collects input log lines
+
+-- the text was run: its log is finished, the rows before the last few batches aren't kept, and what is finished is kept or dropped as it is
+-- to be
+pub record HasRunText (plan : Plan) (input : Option (List ℕ)) (run : Run) : Type 0 where
+  pub log : IsLogOfText input run.log
+  pub all : finished run ≡ length run.log.statements
+  pub trimmed : IsTrimmedBy plan.history plan.settings run
+  pub kept : run.dropped ≡ dropped_by plan.history run

@@ -8,7 +8,7 @@ use Rattle.read_ahead.specs.declared.ahead.Ahead.{Ahead}
 use Rattle.report.specs.Report.{ParsedLine}
 use Rattle.bohm_base.specs.Collecting.{ReadsAs}
 use Rattle.bohm_base.specs.Pending.{HasBegunReport}
-use Rattle.bohm_base.specs.declared.fault.EngineFault.{EngineFault}
+use Rattle.line_io.specs.declared.fault.EngineFault.{EngineFault}
 use Rattle.batched_text.specs.Faults.{IsOfBatch}
 use Rattle.batched_text.specs.Batching.{BatchedUpTo, IsBatchReady, Takes}
 use Rattle.batched_text.specs.declared.batching.Batching.{Batching}

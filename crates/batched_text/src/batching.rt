@@ -1,9 +1,8 @@
 //! Lines that are taken, and run as a batch once there are enough of them.
 
-ghost use Rattle.std.specs.Prelude.{◌≡◌, ◌≤◌, IfErr, OnErr, OnOk};
+ghost use Rattle.std.specs.Prelude.{◌≡◌, ◌≤◌, IfErr, OnOk};
 ghost use Rattle.engine.specs.Engine.{finished};
-ghost use Rattle.batched_text.specs.Batching.{IsFilling, ReportsAll, ReportsFirst};
-ghost use Rattle.batched_text.specs.Faults.{IsOfBatch, of_batch};
+ghost use Rattle.batched_text.specs.Batching.{IsFaultOfBatch, IsFilling, ReportsAll, ReportsFirst};
 ghost use Rattle.batched_text.specs.History.{KeepsAll, dropped_by};
 
 use crate::history::History;
@@ -11,7 +10,7 @@ use crate::reporting::put_lines;
 use crate::runner::Runner;
 use crate::settings::{Settings, mark_behind};
 use bohm_base::{EngineFault, LineOutcome};
-use engine::{Crew, Engine, RunFault};
+use engine::{Crew, Engine};
 use model_base::{HashSeed, Place};
 use std::alloc::Global;
 use std::sync::Wait;
@@ -79,16 +78,6 @@ fn crew_of(settings: &Settings) -> Crew
     }
 }
 
-/// The fault of a batch, as one of a text.
-fn text_fault(fault: RunFault) -> EngineFault
-    ensures { result ≡ of_batch fault }
-{
-    match fault {
-        RunFault::NoMemory => EngineFault::NoMemory,
-        RunFault::Spawn => EngineFault::Spawn,
-    }
-}
-
 /// Forgets what is finished, unless all of it is kept.
 fn forget_finished(engine: &mut Engine, history: History)
     requires { KeepsAll history engine.old }
@@ -109,22 +98,18 @@ pub(crate) fn report_batch<T: Threads + Wait + Sync>(
     batching: &mut Batching,
 ) -> Result<(), EngineFault>
     requires filling { IsFilling runner.now.plan batching.old }
-    ensures stops { IfErr result (IsOfBatch runner.now.plan.settings.workers) }
     ensures reports { OnOk result (ReportsAll runner.now.plan batching.old batching.new) }
-    ensures err { OnErr result (batching.new.pending.items ≡ batching.old.pending.items) }
+    ensures err { IfErr result (IsFaultOfBatch runner.now.plan batching.old batching.new) }
 {
     let settings = &runner.plan.settings;
     let place = batching.engine.finished();
     let end = batching.engine.log().len();
     if place < end {
         let crew = crew_of(settings);
-        match batching
+        batching
             .engine
-            .run_to(runner.rt, runner.alloc, end, crew, &NoGate)
-        {
-            Ok(()) => trim_to(&mut batching.engine, mark_behind(settings, place, end)),
-            Err(fault) => return Err(text_fault(fault)),
-        }
+            .run_to(runner.rt, runner.alloc, end, crew, &NoGate)?;
+        trim_to(&mut batching.engine, mark_behind(settings, place, end));
     }
     let first = batching.number - batching.waiting.len() as u64;
     batching.text.clear();
@@ -149,9 +134,8 @@ pub(crate) fn report_full<T: Threads + Wait + Sync>(
     batching: &mut Batching,
 ) -> Result<(), EngineFault>
     requires filling { IsFilling runner.now.plan batching.old }
-    ensures stops { IfErr result (IsOfBatch runner.now.plan.settings.workers) }
     ensures reports { OnOk result (ReportsFirst runner.now.plan batching.old batching.new) }
-    ensures err { OnErr result (batching.new.pending.items ≡ batching.old.pending.items) }
+    ensures err { IfErr result (IsFaultOfBatch runner.now.plan batching.old batching.new) }
 {
     let waiting = batching.engine.log().len() - batching.engine.finished();
     if waiting >= runner.plan.settings.batch {

@@ -6,8 +6,7 @@ ghost use Rattle.log_text.specs.Statement.{IsInGrammar};
 ghost use Rattle.report.specs.Report.{ParsedLine, read};
 ghost use Rattle.bohm_base.specs.Collecting.{LineMayLackMemory, ReadsAs, line_outcome, with_reading};
 ghost use Rattle.engine.specs.Engine.{finished};
-ghost use Rattle.batched_text.specs.Batching.{Deals, IsOpen, Takes};
-ghost use Rattle.batched_text.specs.Faults.{IsOfBatch};
+ghost use Rattle.batched_text.specs.Batching.{Deals, IsFaultOfBatch, IsOpen, Takes};
 ghost use Rattle.batched_text.specs.Foretold.{log_names};
 ghost use Rattle.batched_text.specs.LineRead.{reading_by};
 
@@ -131,8 +130,7 @@ pub(crate) fn deal<'a, T: Threads + Wait + Sync>(
         × (ReadsAs (batching.old.number == 1) (log_names batching.old).version line.now reading
         × Deals reading batching.old batching.new)) }
     ensures room { OnOk result (IsOpen runner.now.plan batching.new) }
-    ensures pending { OnErr result (batching.new.pending.items ≡ batching.old.pending.items) }
-    ensures err { IfErr result (IsOfBatch runner.now.plan.settings.workers) }
+    ensures err { IfErr result (IsFaultOfBatch runner.now.plan batching.old batching.new) }
 {
     take_line(batching, line, raw)?;
     let _dropped = batching.engine.log().dropped();

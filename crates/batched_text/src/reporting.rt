@@ -34,43 +34,47 @@ pub fn named_grantees(
     }
 }
 
+/// A place of an engine that is finished, with its statement and its outcome.
+#[derive(Clone, Copy)]
+struct FinishedPlace<'a> {
+    engine: &'a Engine,
+    place: Place,
+    statement: &'a Statement,
+    outcome: &'a Outcome,
+}
+
 /// Appends the report's line for a place by its statement, its outcome and the grantees of the records that it lists.
 #[inline(never)]
-fn put_named(
-    alloc: Global,
-    text: &mut Vec<u8>,
-    engine: &Engine,
-    place: Place,
-    statement: &Statement,
-    found: &Outcome,
-) -> Result<(), AllocError>
-    requires whole { IsWhole engine.now.log }
-    requires finished { IsFinishedAs engine.now place statement.now found.now }
-    ensures { OnOk result (text.new.items ≡ text.old.items ++ place_text engine.now.log.statements engine.now.log.names place) }
+fn put_named(alloc: Global, text: &mut Vec<u8>, at: &FinishedPlace<'_>) -> Result<(), AllocError>
+    requires whole { IsWhole at.now.engine.now.log }
+    requires finished { IsFinishedAs at.now.engine.now at.now.place at.now.statement.now at.now.outcome.now }
+    ensures { OnOk result (text.new.items
+        ≡ text.old.items ++ place_text at.now.engine.now.log.statements at.now.engine.now.log.names at.now.place) }
 {
-    let grantees = engine.grantees_of(alloc, records_of(found))?;
-    let catalog = engine.log().catalog();
-    put_outcome(text, catalog, place, &statement.form, found, &grantees)
+    let grantees = at.engine.grantees_of(alloc, records_of(at.outcome))?;
+    let catalog = at.engine.log().catalog();
+    put_outcome(
+        text,
+        catalog,
+        at.place,
+        &at.statement.form,
+        at.outcome,
+        &grantees,
+    )
 }
 
 /// Appends the report's line for a place by its statement and its outcome.
 #[inline(always)]
-fn put_finished(
-    alloc: Global,
-    text: &mut Vec<u8>,
-    engine: &Engine,
-    place: Place,
-    statement: &Statement,
-    found: &Outcome,
-) -> Result<(), AllocError>
-    requires whole { IsWhole engine.now.log }
-    requires finished { IsFinishedAs engine.now place statement.now found.now }
-    ensures { OnOk result (text.new.items ≡ text.old.items ++ place_text engine.now.log.statements engine.now.log.names place) }
+fn put_finished(alloc: Global, text: &mut Vec<u8>, at: &FinishedPlace<'_>) -> Result<(), AllocError>
+    requires whole { IsWhole at.now.engine.now.log }
+    requires finished { IsFinishedAs at.now.engine.now at.now.place at.now.statement.now at.now.outcome.now }
+    ensures { OnOk result (text.new.items
+        ≡ text.old.items ++ place_text at.now.engine.now.log.statements at.now.engine.now.log.names at.now.place) }
 {
-    let catalog = engine.log().catalog();
+    let catalog = at.engine.log().catalog();
     match catalog.version() {
-        Version::One => put_outcome(text, catalog, place, &statement.form, found, &[]),
-        Version::Two => put_named(alloc, text, engine, place, statement, found),
+        Version::One => put_outcome(text, catalog, at.place, &at.statement.form, at.outcome, &[]),
+        Version::Two => put_named(alloc, text, at),
     }
 }
 
@@ -88,7 +92,15 @@ pub fn put_place(
 {
     let statement = engine.log().statement(place);
     match engine.outcome(place) {
-        Some(found) => put_finished(alloc, text, engine, place, statement, found),
+        Some(outcome) => {
+            let at = FinishedPlace {
+                engine,
+                place,
+                statement,
+                outcome,
+            };
+            put_finished(alloc, text, &at)
+        }
         None => Ok(()),
     }
 }
@@ -120,7 +132,13 @@ fn put_kept(text: &mut Vec<u8>, kept: &KeptPlaces<'_>, place: Place) -> Result<(
     let index = (place - kept.dropped) as usize;
     let statement = &statements[index];
     let outcome = &outcomes[index];
-    put_finished(kept.alloc, text, kept.engine, place, statement, outcome)
+    let at = FinishedPlace {
+        engine: kept.engine,
+        place,
+        statement,
+        outcome,
+    };
+    put_finished(kept.alloc, text, &at)
 }
 
 /// Appends the report's line for a line of this number to the text. An accepted line has this place, as in `put_kept`.

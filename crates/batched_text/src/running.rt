@@ -3,15 +3,16 @@
 ghost use Rattle.std.specs.Prelude.{◌≡◌, ◌≢◌, ◌<◌, ◌≤◌, ◌-◌, ◌^◌, ◌↔◌, ℕ, [], false, true, List, Option, IfErr, IfOk, OnErr, OnOk, Err, Ok, length};
 ghost use Rattle.std.specs.Io.KnownBytes.{Keeps};
 ghost use Rattle.line_io.specs.Ahead.{ahead};
+ghost use Rattle.line_io.specs.Failures.{CountsFailures};
 ghost use Rattle.line_io.specs.Known.{raised};
-ghost use Rattle.bohm_base.specs.Faults.{read_errors, write_errors};
-ghost use Rattle.bohm_base.specs.Pending.{HasBegunReport, HasReport, WritesBegunReport, WritesReport};
+ghost use Rattle.bohm_base.specs.Faults.{IsFaultInOrder, read_errors, write_errors};
+ghost use Rattle.bohm_base.specs.Pending.{HasBegunReport, HasReport};
 ghost use Rattle.sequencer.specs.Foretelling.{Begins};
 ghost use Rattle.engine.specs.Engine.{finished};
-ghost use Rattle.batched_text.specs.Batching.{BatchedTurn, HasBegunReportOfRead, IsBatchReady, IsFresh, IsLogOfText, WritesBegunReportOfRead, standing_at};
-ghost use Rattle.batched_text.specs.Faults.{of_text};
+ghost use Rattle.batched_text.specs.Batching.{BatchedTurn, HasBegunReportOfRead, HasRunText, IsBatchReady, IsBeginning, IsLogOfText, ReportsRead, standing_at};
+ghost use Rattle.batched_text.specs.Faults.{IsOfRun};
 ghost use Rattle.batched_text.specs.Foretold.{log_names};
-ghost use Rattle.batched_text.specs.History.{IsTrimmedBy, NoneWait, dropped_by};
+ghost use Rattle.batched_text.specs.History.{NoneWait};
 ghost use Rattle.batched_text.specs.Settings.{IsTrimmed, are_within_limits};
 
 use crate::batching::{Batching, report_batch};
@@ -21,9 +22,8 @@ use crate::lines::deal;
 use crate::lookahead::{Lookahead, ReadingAhead, deal_at_hand};
 use crate::runner::Runner;
 use crate::settings::{Settings, are_within_limits};
-use bohm_base::EngineFault as TextFault;
-use engine::{Engine, EngineFault};
-use line_io::{Counted, LineReader, flush, write_out, write_pending};
+use engine::Engine;
+use line_io::{Counted, EngineFault, LineReader, flush, write_out, write_pending};
 use log_text::LineBuffers;
 use model_base::HashSeed;
 use std::alloc::{AllocError, Global};
@@ -49,13 +49,13 @@ const IN_ORDER: Settings = Settings {
 
 /// Takes the next line, and reports its batch if that is full. False at the end of the input. It is called only while nothing of the
 /// report is pending and, where nothing is kept, while no line waits: so each line is answered before the reader is asked for the next one.
-#[tactic(auto, using(crate::proofs::Faults::several_told, crate::proofs::Faults::several_kept))]
+#[tactic(auto, using(crate::proofs::Faults::run_stops, crate::proofs::Faults::run_told))]
 fn report_line<T: Threads + Wait + Sync, R: Read>(
     runner: &Runner<T>,
     reader: &mut Counted<R>,
     lines: &mut LineReader,
     batching: &mut Batching,
-) -> Result<bool, TextFault>
+) -> Result<bool, EngineFault>
     requires ready { IsBatchReady runner.now.plan batching.old (length (ahead lines.old)) reader.old.given }
     requires nothing { batching.old.pending.items ≡ [] }
     requires none { NoneWait runner.now.plan.history batching.old.waiting.items }
@@ -64,8 +64,8 @@ fn report_line<T: Threads + Wait + Sync, R: Read>(
         (standing_at (ahead lines.new) (R.remaining reader.new.inner) reader.new.given held batching.new) }
     ensures reads { reader.new.errors ≡ read_errors result reader.old.errors }
     ensures begins { OnOk result (Begins (log_names batching.old) (log_names batching.new)) }
-    ensures err { IfErr result (λ f. f ≢ TextFault.Write) }
-    ensures alone { IfErr result (λ f. f ≡ TextFault.Spawn → 1 < runner.now.plan.settings.workers) }
+    ensures err { IfErr result (λ f. f ≢ EngineFault.Write) }
+    ensures alone { IfErr result (IsOfRun runner.now.plan.settings.workers) }
 {
     if !lines.next_line(reader)? {
         return Ok(false);
@@ -88,30 +88,26 @@ fn lines_for(alloc: Global, reading: ReadingAhead) -> Result<LineReader, AllocEr
 /// Takes the lines of the input, and runs and reports all of it, the end of the report still pending. In each turn it takes a line, as
 /// `report_line`, and then whole buffered lines, as `deal_at_hand`. Then it reports the lines that wait, unless all is kept, and writes what
 /// is pending.
-#[tactic(auto, using(crate::proofs::Faults::several_told, crate::proofs::Faults::several_kept))]
+#[tactic(auto, using(crate::proofs::Faults::run_stops, crate::proofs::Faults::run_told))]
 fn report_all<T: Threads + Wait + Sync, R: Read, W: Write>(
     runner: &Runner<T>,
     reader: &mut Counted<R>,
     writer: &mut Counted<W>,
     batching: &mut Batching,
     reading: ReadingAhead,
-) -> Result<(), TextFault>
-    requires within { are_within_limits runner.now.plan.settings ≡ true }
-    requires first { IsFresh batching.old }
-    ensures kept { OnOk result (batching.new.engine.dropped ≡ dropped_by runner.now.plan.history batching.new.engine) }
-    ensures log { OnOk result (IsLogOfText (R.remaining reader.old.inner) batching.new.engine.log) }
-    ensures all { OnOk result (finished batching.new.engine ≡ length batching.new.engine.log.statements) }
-    ensures trimmed { OnOk result (IsTrimmedBy runner.now.plan.history runner.now.plan.settings batching.new.engine) }
+) -> Result<(), EngineFault>
+    requires { IsBeginning runner.now.plan batching.old }
     ensures done { OnOk result (HasReport (R.remaining reader.old.inner) (W.contents writer.old.inner) (W.contents writer.new.inner)
         batching.new.pending.items) }
     ensures begun { HasBegunReport (R.remaining reader.old.inner) (W.contents writer.old.inner) (W.contents writer.new.inner)
         batching.new.pending.items }
     ensures begun_read { HasBegunReportOfRead (R.remaining reader.old.inner) (R.remaining reader.new.inner)
         (W.contents writer.old.inner) (W.contents writer.new.inner) batching.new.pending.items }
+    ensures ran { OnOk result (HasRunText runner.now.plan (R.remaining reader.old.inner) batching.new.engine) }
     ensures reads { reader.new.errors ≡ read_errors result reader.old.errors }
     ensures writes { writer.new.errors ≡ write_errors result writer.old.errors }
     ensures flushes { writer.new.flushes ≡ writer.old.flushes }
-    ensures alone { IfErr result (λ f. f ≡ TextFault.Spawn → 1 < runner.now.plan.settings.workers) }
+    ensures alone { IfErr result (IsOfRun runner.now.plan.settings.workers) }
 {
     let mut lines = lines_for(runner.alloc, reading)?;
     let seed = batching.engine.log().catalog().seed();
@@ -135,11 +131,11 @@ fn report_all<T: Threads + Wait + Sync, R: Read, W: Write>(
 }
 
 /// Flushes the writer at the end of a report.
-fn end_report<W: Write>(writer: &mut Counted<W>) -> Result<(), TextFault>
+fn end_report<W: Write>(writer: &mut Counted<W>) -> Result<(), EngineFault>
     ensures bytes { Keeps (W.contents writer.old.inner) (W.contents writer.new.inner) }
     ensures same { OnOk result (writer.new.errors ≡ writer.old.errors) }
     ensures err { OnErr result (writer.new.errors ≡ raised writer.old.errors) }
-    ensures fault { IfErr result (λ f. f ≡ TextFault.Write) }
+    ensures fault { IfErr result (λ f. f ≡ EngineFault.Write) }
     ensures flushed { OnOk result ((writer.new.flushes ≡ raised writer.old.flushes) × (writer.new.is_flushed ≡ true)) }
 {
     flush(writer)?;
@@ -148,29 +144,20 @@ fn end_report<W: Write>(writer: &mut Counted<W>) -> Result<(), TextFault>
 
 /// Reads a log to its end, runs it in batches, and writes its report, at a fault as much of it as was made; then the writer is
 /// flushed. No line was dealt with before.
-#[tactic(auto, using(crate::proofs::Faults::several_told, crate::proofs::Faults::several_kept))]
+#[tactic(auto, using(crate::proofs::Faults::run_stops, crate::proofs::Faults::run_told))]
 fn run_batches<T: Threads + Wait + Sync, R: Read, W: Write>(
     runner: &Runner<T>,
     reader: &mut Counted<R>,
     writer: &mut Counted<W>,
     batching: &mut Batching,
     reading: ReadingAhead,
-) -> Result<(), TextFault>
-    requires within { are_within_limits runner.now.plan.settings ≡ true }
-    requires first { IsFresh batching.old }
-    ensures log { OnOk result (IsLogOfText (R.remaining reader.old.inner) batching.new.engine.log) }
-    ensures all { OnOk result (finished batching.new.engine ≡ length batching.new.engine.log.statements) }
-    ensures trimmed { OnOk result (IsTrimmedBy runner.now.plan.history runner.now.plan.settings batching.new.engine) }
-    ensures kept { OnOk result (batching.new.engine.dropped ≡ dropped_by runner.now.plan.history batching.new.engine) }
-    ensures done { OnOk result (WritesReport (R.remaining reader.old.inner) (W.contents writer.old.inner) (W.contents writer.new.inner)) }
-    ensures begun { WritesBegunReport (R.remaining reader.old.inner) (W.contents writer.old.inner) (W.contents writer.new.inner) }
-    ensures begun_read { WritesBegunReportOfRead (R.remaining reader.old.inner) (R.remaining reader.new.inner)
-        (W.contents writer.old.inner) (W.contents writer.new.inner) }
-    ensures read { result ≡ Err TextFault.Read → reader.old.errors < 2 ^ 64 - 1 → reader.old.errors < reader.new.errors }
-    ensures write { result ≡ Err TextFault.Write → writer.old.errors < 2 ^ 64 - 1 → writer.old.errors < writer.new.errors }
-    ensures whole { OnOk result ((reader.new.errors ≡ reader.old.errors) × (writer.new.errors ≡ writer.old.errors)) }
-    ensures flushed { OnOk result ((writer.new.flushes ≡ raised writer.old.flushes) × (writer.new.is_flushed ≡ true)) }
-    ensures alone { IfErr result (λ f. f ≡ TextFault.Spawn → 1 < runner.now.plan.settings.workers) }
+) -> Result<(), EngineFault>
+    requires { IsBeginning runner.now.plan batching.old }
+    ensures report { ReportsRead (R.remaining reader.old.inner) (R.remaining reader.new.inner)
+        (W.contents writer.old.inner) (W.contents writer.new.inner) result }
+    ensures ran { OnOk result (HasRunText runner.now.plan (R.remaining reader.old.inner) batching.new.engine) }
+    ensures failures { CountsFailures EngineFault.Read EngineFault.Write reader.old reader.new writer.old writer.new result }
+    ensures alone { IfErr result (IsOfRun runner.now.plan.settings.workers) }
 {
     let ended = report_all(runner, reader, writer, batching, reading);
     let written = write_out(writer, &batching.pending);
@@ -178,18 +165,6 @@ fn run_batches<T: Threads + Wait + Sync, R: Read, W: Write>(
     written?;
     end_report(writer)?;
     Ok(())
-}
-
-/// The fault of a run, as one of an engine.
-fn engine_fault(fault: TextFault) -> EngineFault
-    ensures { result ≡ of_text fault }
-{
-    match fault {
-        TextFault::NoMemory => EngineFault::NoMemory,
-        TextFault::Read => EngineFault::Read,
-        TextFault::Write => EngineFault::Write,
-        TextFault::Spawn => EngineFault::Spawn,
-    }
 }
 
 /// Reads a log to its end, runs it in batches, and writes its report: one line for each line but the heading of version 2. The report of
@@ -204,7 +179,7 @@ fn engine_fault(fault: TextFault) -> EngineFault
 /// refused, `Spawn` where a worker's thread could not be started, `Read` where the reader failed, `Write` where the writer failed, or took
 /// no byte of a piece that wasn't empty. After a fault a beginning of the report is written: after `NoMemory`, `Spawn` and `Read` the
 /// batches that were finished, after `Write` what the writer took.
-#[tactic(auto, using(crate::proofs::Faults::several_engine))]
+#[tactic(auto, using(crate::proofs::Faults::never_bad, crate::proofs::Faults::one_alone))]
 pub fn run_text<T: Threads + Wait + Sync, R: Read, W: Write>(
     rt: &T,
     alloc: Global,
@@ -213,20 +188,12 @@ pub fn run_text<T: Threads + Wait + Sync, R: Read, W: Write>(
     settings: &Settings,
     seed: HashSeed,
 ) -> Result<Engine, EngineFault>
-    // What was written is the report of what was read.
-    ensures done { OnOk result (WritesReport (R.remaining reader.old.inner) (W.contents writer.old.inner) (W.contents writer.new.inner)) }
-    // After a fault it is a beginning of it.
-    ensures begun { WritesBegunReport (R.remaining reader.old.inner) (W.contents writer.old.inner) (W.contents writer.new.inner) }
-    // It is also a beginning of the report of what was read by then: it says nothing of what the reader has left.
-    ensures begun_read { WritesBegunReportOfRead (R.remaining reader.old.inner) (R.remaining reader.new.inner)
-        (W.contents writer.old.inner) (W.contents writer.new.inner) }
-    // Read and Write come only where the reader or the writer failed.
-    ensures read { result ≡ Err EngineFault.Read → reader.old.errors < 2 ^ 64 - 1 → reader.old.errors < reader.new.errors }
-    ensures write { result ≡ Err EngineFault.Write → writer.old.errors < 2 ^ 64 - 1 → writer.old.errors < writer.new.errors }
-    // Ok says that neither of them failed, in the flush at the end neither.
-    ensures whole { OnOk result ((reader.new.errors ≡ reader.old.errors) × (writer.new.errors ≡ writer.old.errors)) }
-    // Ok says that the writer was flushed once, and not written to since.
-    ensures flushed { OnOk result ((writer.new.flushes ≡ raised writer.old.flushes) × (writer.new.is_flushed ≡ true)) }
+    // What was written is the report of what was read, and after a fault a beginning of it, which says nothing of what the reader has left.
+    ensures report { ReportsRead (R.remaining reader.old.inner) (R.remaining reader.new.inner)
+        (W.contents writer.old.inner) (W.contents writer.new.inner) result }
+    // Read and Write come only where the reader or the writer failed. Ok says that neither of them failed, in the flush at the end neither,
+    // and that the writer was flushed once and not written to since.
+    ensures failures { CountsFailures EngineFault.Read EngineFault.Write reader.old reader.new writer.old writer.new result }
 
     // BadSettings comes exactly where a setting is outside its limits, and then nothing is done.
     ensures bad { (result ≡ Err EngineFault.BadSettings) ↔ (are_within_limits settings.now ≡ false) }
@@ -245,10 +212,8 @@ pub fn run_text<T: Threads + Wait + Sync, R: Read, W: Write>(
     }
     let mut batching = Batching::seeded(alloc, seed);
     let runner = Runner::keeping(rt, alloc, *settings);
-    match run_batches(&runner, reader, writer, &mut batching, NONE_AHEAD) {
-        Ok(()) => Ok(batching.engine),
-        Err(fault) => Err(engine_fault(fault)),
-    }
+    run_batches(&runner, reader, writer, &mut batching, NONE_AHEAD)?;
+    Ok(batching.engine)
 }
 
 /// Reads a log to its end, runs it in batches, and writes its report, as `run_text`, but keeps nothing that is finished: with each
@@ -258,7 +223,7 @@ pub fn run_text<T: Threads + Wait + Sync, R: Read, W: Write>(
 /// A batch ends also where no whole line is available, so that the reader is asked only when all lines before are reported: a line that
 /// comes alone is answered at once. It has at most the whole lines of one read of `BUFFER_BYTES` then, and the one that was begun before.
 /// After each batch the store's mark is `batch * (keep - 1)` places before the start of the batch, or its end if `keep` is 0.
-#[tactic(auto, using(crate::proofs::Faults::several_engine))]
+#[tactic(auto, using(crate::proofs::Faults::never_bad, crate::proofs::Faults::one_alone))]
 pub fn report_text<T: Threads + Wait + Sync, R: Read, W: Write>(
     rt: &T,
     alloc: Global,
@@ -267,20 +232,12 @@ pub fn report_text<T: Threads + Wait + Sync, R: Read, W: Write>(
     settings: &Settings,
     seed: HashSeed,
 ) -> Result<(), EngineFault>
-    // What was written is the report of what was read.
-    ensures done { OnOk result (WritesReport (R.remaining reader.old.inner) (W.contents writer.old.inner) (W.contents writer.new.inner)) }
-    // After a fault it is a beginning of it.
-    ensures begun { WritesBegunReport (R.remaining reader.old.inner) (W.contents writer.old.inner) (W.contents writer.new.inner) }
-    // It is also a beginning of the report of what was read by then: it says nothing of what the reader has left.
-    ensures begun_read { WritesBegunReportOfRead (R.remaining reader.old.inner) (R.remaining reader.new.inner)
-        (W.contents writer.old.inner) (W.contents writer.new.inner) }
-    // Read and Write come only where the reader or the writer failed.
-    ensures read { result ≡ Err EngineFault.Read → reader.old.errors < 2 ^ 64 - 1 → reader.old.errors < reader.new.errors }
-    ensures write { result ≡ Err EngineFault.Write → writer.old.errors < 2 ^ 64 - 1 → writer.old.errors < writer.new.errors }
-    // Ok says that neither of them failed, in the flush at the end neither.
-    ensures whole { OnOk result ((reader.new.errors ≡ reader.old.errors) × (writer.new.errors ≡ writer.old.errors)) }
-    // Ok says that the writer was flushed once, and not written to since.
-    ensures flushed { OnOk result ((writer.new.flushes ≡ raised writer.old.flushes) × (writer.new.is_flushed ≡ true)) }
+    // What was written is the report of what was read, and after a fault a beginning of it, which says nothing of what the reader has left.
+    ensures report { ReportsRead (R.remaining reader.old.inner) (R.remaining reader.new.inner)
+        (W.contents writer.old.inner) (W.contents writer.new.inner) result }
+    // Read and Write come only where the reader or the writer failed. Ok says that neither of them failed, in the flush at the end neither,
+    // and that the writer was flushed once and not written to since.
+    ensures failures { CountsFailures EngineFault.Read EngineFault.Write reader.old reader.new writer.old writer.new result }
 
     // BadSettings comes exactly where a setting is outside its limits, and then nothing is done.
     ensures bad { (result ≡ Err EngineFault.BadSettings) ↔ (are_within_limits settings.now ≡ false) }
@@ -293,10 +250,7 @@ pub fn report_text<T: Threads + Wait + Sync, R: Read, W: Write>(
     }
     let mut batching = Batching::seeded(alloc, seed);
     let runner = Runner::dropping(rt, alloc, *settings);
-    match run_batches(&runner, reader, writer, &mut batching, NONE_AHEAD) {
-        Ok(()) => Ok(()),
-        Err(fault) => Err(engine_fault(fault)),
-    }
+    run_batches(&runner, reader, writer, &mut batching, NONE_AHEAD)
 }
 
 /// Reads a log to its end, runs it in order on this thread, and writes its report: one line for each line but the heading of version 2.
@@ -310,6 +264,7 @@ pub fn report_text<T: Threads + Wait + Sync, R: Read, W: Write>(
 /// growth was refused, `Read` where the reader failed, `Write` where the writer failed, or took no byte of a piece that wasn't empty. After
 /// a fault a beginning of the report is written: after `NoMemory` and `Read` the batches that were finished, after `Write` what the writer
 /// took.
+#[tactic(auto, using(crate::proofs::Faults::in_order))]
 pub fn report_in_order<T: Threads + Wait + Sync, R: Read, W: Write>(
     rt: &T,
     alloc: Global,
@@ -317,23 +272,15 @@ pub fn report_in_order<T: Threads + Wait + Sync, R: Read, W: Write>(
     writer: &mut Counted<W>,
     reading: ReadingAhead,
     seed: HashSeed,
-) -> Result<(), TextFault>
-    // What was written is the report of what was read.
-    ensures done { OnOk result (WritesReport (R.remaining reader.old.inner) (W.contents writer.old.inner) (W.contents writer.new.inner)) }
-    // After a fault it is a beginning of it.
-    ensures begun { WritesBegunReport (R.remaining reader.old.inner) (W.contents writer.old.inner) (W.contents writer.new.inner) }
-    // It is also a beginning of the report of what was read by then: it says nothing of what the reader has left.
-    ensures begun_read { WritesBegunReportOfRead (R.remaining reader.old.inner) (R.remaining reader.new.inner)
-        (W.contents writer.old.inner) (W.contents writer.new.inner) }
-    // Read and Write come only where the reader or the writer failed.
-    ensures read { result ≡ Err TextFault.Read → reader.old.errors < 2 ^ 64 - 1 → reader.old.errors < reader.new.errors }
-    ensures write { result ≡ Err TextFault.Write → writer.old.errors < 2 ^ 64 - 1 → writer.old.errors < writer.new.errors }
-    // Ok says that neither of them failed, in the flush at the end neither.
-    ensures whole { OnOk result ((reader.new.errors ≡ reader.old.errors) × (writer.new.errors ≡ writer.old.errors)) }
-    // Ok says that the writer was flushed once, and not written to since.
-    ensures flushed { OnOk result ((writer.new.flushes ≡ raised writer.old.flushes) × (writer.new.is_flushed ≡ true)) }
-    // A thread that reads ahead and can't be started ends no run.
-    ensures alone { result ≢ Err TextFault.Spawn }
+) -> Result<(), EngineFault>
+    // What was written is the report of what was read, and after a fault a beginning of it, which says nothing of what the reader has left.
+    ensures report { ReportsRead (R.remaining reader.old.inner) (R.remaining reader.new.inner)
+        (W.contents writer.old.inner) (W.contents writer.new.inner) result }
+    // Read and Write come only where the reader or the writer failed. Ok says that neither of them failed, in the flush at the end neither,
+    // and that the writer was flushed once and not written to since.
+    ensures failures { CountsFailures EngineFault.Read EngineFault.Write reader.old reader.new writer.old writer.new result }
+    // There is no setting to be bad, and a thread that reads ahead and can't be started ends no run.
+    ensures alone { IfErr result IsFaultInOrder }
 {
     let mut batching = Batching::seeded(alloc, seed);
     let runner = Runner::dropping(rt, alloc, IN_ORDER);

@@ -4,11 +4,11 @@ use Rattle.std.specs.Prelude.{IfSome, OnOk, Result, Ok, Err}
 use Rattle.std.specs.Io.KnownBytes.{Appends, Keeps}
 use Rattle.std.proofs.lemmas.List.{append-nil, take-append-drop}
 use Rattle.line_io.specs.Known.{AppendsFront, HasBegun, MovesOut}
+use Rattle.line_io.specs.declared.fault.EngineFault.{EngineFault}
 use Rattle.line_io.proofs.Written.{appends_none, appends_then, appends_kept, appends_front, moved_none}
 use Rattle.sequencer.specs.Log.{Accepted}
 use Rattle.report.proofs.Readings.{IsTotal, some_report}
 use Rattle.bohm_base.specs.declared.collecting.LineOutcome.{LineOutcome}
-use Rattle.bohm_base.specs.declared.fault.EngineFault.{EngineFault}
 use Rattle.bohm_base.specs.Collecting.{Collects, line_outcome_text, log_text, places_of, report_text}
 use Rattle.bohm_base.specs.Pending.{WritesBegunReport, WritesReport}
 use Rattle.bohm_base.proofs.Logs.{report_is}

@@ -6,3 +6,4 @@ pub mod Beginnings
 pub mod WholeLogs
 pub mod Reporting
 pub mod Reached
+pub mod RunResults

@@ -6,6 +6,8 @@ use Rattle.std.proofs.lemmas.List.{append-nil, length-append, take_all, length-t
 use Rattle.std.proofs.lemmas.Bool.{cases_Bool, cases_lt, cond-true, lt-ltb, ne_eqb}
 use Rattle.std.proofs.lemmas.Slice.Eq.{bytes_eq-Decides}
 use Rattle.line_io.specs.Known.{HadSome, TookLine, raised}
+use Rattle.line_io.specs.Faults.{of_reading}
+use Rattle.line_io.specs.declared.fault.EngineFault.{EngineFault}
 use Rattle.line_io.specs.declared.fault.ReadFault.{ReadFault}
 use Rattle.line_io.specs.Lines.{lines_of, first_line, other_lines}
 use Rattle.line_io.proofs.LinesLaws.{lines_first}
@@ -19,8 +21,7 @@ use Rattle.sequencer.specs.Log.{Accepted, empty_log}
 use Rattle.report.specs.Report.{AreParsedFrom, AreParsedLines, IsParsedLine, ParsedLine, the_heading, is_heading, names_after, version_with}
 use Rattle.report.proofs.ReportLemmas.{names_after-append, version-with}
 use Rattle.bohm_base.specs.declared.collecting.LineOutcome.{LineOutcome}
-use Rattle.bohm_base.specs.declared.fault.EngineFault.{EngineFault}
-use Rattle.bohm_base.specs.Faults.{of_reading, read_errors}
+use Rattle.bohm_base.specs.Faults.{read_errors}
 use Rattle.bohm_base.specs.Collecting.{Collects, CollectsSoFar, AreReadBefore, ReadsAs, line_outcome, reading_of, with_reading}
 use Rattle.bohm_base.proofs.Logs.{length-line_outcomes, log_step}
 

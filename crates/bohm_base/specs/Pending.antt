@@ -1,5 +1,5 @@
 -- What was written after what a writer held, and what is pending.
-use Rattle.std.specs.Prelude.{ℕ, Option, List, IfSome}
+use Rattle.std.specs.Prelude.{ℕ, Option, List, IfSome, OnOk, Result}
 use Rattle.std.specs.Io.KnownBytes.{Appends}
 use Rattle.line_io.specs.Known.{AppendsFront, HasBegun, MovesOut}
 use Rattle.report.specs.Report.{IsReport}
@@ -21,3 +21,8 @@ WritesReport input old now = IfSome input (λ bytes. (text : List ℕ) × (IsRep
 -- after what the writer held comes a beginning of the report of the input, and nothing else
 abbrev pub WritesBegunReport : Option (List ℕ) → Option (List ℕ) → Option (List ℕ) → Type 0
 WritesBegunReport input old now = IfSome input (λ bytes. (text : List ℕ) × (IsReport bytes text × AppendsFront old now text))
+
+-- of a run by its result: after what the writer held comes a beginning of the report of the input, and nothing else; where the run
+-- succeeded it is the report
+abbrev pub ReportsInput : {A F : Type 0} → Option (List ℕ) → Option (List ℕ) → Option (List ℕ) → Result A F → Type 0
+ReportsInput input old now result = OnOk result (WritesReport input old now) × WritesBegunReport input old now

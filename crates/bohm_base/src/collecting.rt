@@ -6,11 +6,10 @@ ghost use Rattle.log_text.specs.Statement.{IsInGrammar};
 ghost use Rattle.line_io.specs.Ahead.{ahead};
 ghost use Rattle.sequencer.specs.Log.{empty_log};
 ghost use Rattle.report.specs.Report.{ParsedLine, read};
-ghost use Rattle.bohm_base.specs.Faults.{read_errors};
+ghost use Rattle.bohm_base.specs.Faults.{IsFaultInOrder, read_errors};
 ghost use Rattle.bohm_base.specs.Collecting.{Collects, LineMayLackMemory, ReadsAs, line_outcome, places_of, reading_of, with_reading};
 
-use crate::fault::EngineFault;
-use line_io::{Counted, LineReader};
+use line_io::{Counted, EngineFault, LineReader};
 use log_text::{LineFault, RawStatement, Version, is_heading_line, parse_line_in};
 use model_base::HashSeed;
 use sequencer::{Log, Refused};
@@ -164,7 +163,7 @@ fn collect_all<R: Read>(
         (λ input. Collects input collected.new.log collected.new.lines.items)) }
     ensures reads { reader.new.errors ≡ read_errors result reader.old.errors }
     ensures err { IfErr result (λ f. f ≢ EngineFault.Write) }
-    ensures alone { IfErr result (λ f. f ≢ EngineFault.Spawn) }
+    ensures alone { IfErr result IsFaultInOrder }
 {
     'lines: while reading.next_line(reader)? {
         let is_first = collected.lines.is_empty();
@@ -185,7 +184,7 @@ pub fn collect_lines<R: Read>(
         (λ input. Collects input collected.log collected.lines.items)) }
     ensures reads { reader.new.errors ≡ read_errors result reader.old.errors }
     ensures err { IfErr result (λ f. f ≢ EngineFault.Write) }
-    ensures alone { IfErr result (λ f. f ≢ EngineFault.Spawn) }
+    ensures alone { IfErr result IsFaultInOrder }
 {
     let mut reading = LineReader::new(alloc)?;
     let mut collected = Collected::seeded(alloc, seed);

@@ -8,7 +8,6 @@
 
 mod collecting;
 mod command_line;
-mod fault;
 mod grantees;
 mod pending;
 mod report_cursor;
@@ -16,5 +15,5 @@ mod serial_run;
 
 pub use collecting::{LineOutcome, faulty_line, refused_line};
 pub use command_line::{ArgumentFault, argument_fault, arguments};
-pub use fault::EngineFault;
+pub use line_io::EngineFault;
 pub use serial_run::serial_text;

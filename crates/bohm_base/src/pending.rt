@@ -2,10 +2,9 @@
 
 ghost use Rattle.std.specs.Prelude.{◌≡◌, ◌≢◌, ◌++◌, IfErr, OnOk};
 ghost use Rattle.line_io.specs.Known.{HasBegun, MovesOut};
-ghost use Rattle.bohm_base.specs.Faults.{write_errors};
+ghost use Rattle.bohm_base.specs.Faults.{IsFaultInOrder, write_errors};
 
-use crate::fault::EngineFault;
-use line_io::{Counted, write_much};
+use line_io::{Counted, EngineFault, write_much};
 use std::io::Write;
 
 /// Appends a line to what is pending, and writes what is pending if that is much. Where there is no room for the line, what was pending
@@ -23,7 +22,7 @@ pub(crate) fn put_out<W: Write>(
     ensures errors { writer.new.errors ≡ write_errors result writer.old.errors }
     ensures flushes { writer.new.flushes ≡ writer.old.flushes }
     ensures err { IfErr result (λ f. f ≢ EngineFault.Read) }
-    ensures alone { IfErr result (λ f. f ≢ EngineFault.Spawn) }
+    ensures alone { IfErr result IsFaultInOrder }
 {
     pending.extend_from_slice(line)?;
     write_much(writer, pending)?;

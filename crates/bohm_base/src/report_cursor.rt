@@ -4,10 +4,9 @@ ghost use Rattle.std.specs.Prelude.{◌≡◌, ℕ, slice_get};
 ghost use Rattle.model_base.specs.Outcomes.{outcome};
 
 use crate::collecting::LineOutcome;
-use crate::fault::EngineFault;
 use crate::grantees::granted_to;
 use crate::pending::put_out;
-use line_io::Counted;
+use line_io::{Counted, EngineFault};
 use log_text::Version;
 use model_base::{Grantee, Outcome, Place};
 use report::{put_fault, put_outcome, put_refused, records_of};
@@ -33,7 +32,7 @@ impl ReportCursor<'_> {
     ghost use Rattle.report.specs.Text.{HaveGrantees, records_listed};
     ghost use Rattle.bohm_base.specs.Collecting.{MayLackRoom};
     ghost use Rattle.bohm_base.specs.Cursors.{text_at};
-    ghost use Rattle.bohm_base.specs.Faults.{write_errors};
+    ghost use Rattle.bohm_base.specs.Faults.{IsFaultInOrder, write_errors};
 
     /// To whom the records were granted that the outcome of the place lists. In version 1 the report doesn't name them.
     fn grantees(&self, found: &Outcome) -> Result<Vec<Grantee>, AllocError>
@@ -100,7 +99,7 @@ impl ReportCursor<'_> {
         ensures errors { writer.new.errors ≡ write_errors result writer.old.errors }
         ensures flushes { writer.new.flushes ≡ writer.old.flushes }
         ensures err { IfErr result (λ f. f ≢ EngineFault.Read) }
-        ensures alone { IfErr result (λ f. f ≢ EngineFault.Spawn) }
+        ensures alone { IfErr result IsFaultInOrder }
     {
         text.clear();
         self.put_line(text, line)?;

@@ -2,16 +2,16 @@
 
 ghost use Rattle.std.specs.Prelude.{◌≡◌, ◌≢◌, ◌<◌, ◌-◌, ◌^◌, ℕ, [], IfErr, OnOk, Err, slice_get, true};
 ghost use Rattle.std.specs.Io.KnownBytes.{Appends};
+ghost use Rattle.line_io.specs.Failures.{CountsFailures};
 ghost use Rattle.line_io.specs.Known.{AppendsFront, HasBegun, MovesOut, raised};
 ghost use Rattle.model_base.specs.Outcomes.{outcome};
 ghost use Rattle.bohm_base.specs.Collecting.{log_text};
-ghost use Rattle.bohm_base.specs.Faults.{write_errors};
-ghost use Rattle.bohm_base.specs.Pending.{WritesBegunReport, WritesReport};
+ghost use Rattle.bohm_base.specs.Faults.{IsFaultInOrder, write_errors};
+ghost use Rattle.bohm_base.specs.Pending.{ReportsInput};
 
 use crate::collecting::{Collected, collect_lines};
-use crate::fault::EngineFault;
 use crate::report_cursor::ReportCursor;
-use line_io::{Counted, PENDING_BYTES, flush, write_out};
+use line_io::{Counted, EngineFault, PENDING_BYTES, flush, write_out};
 use model::serial;
 use model_base::{HashSeed, Outcome};
 use std::alloc::Global;
@@ -35,7 +35,7 @@ fn report_lines<W: Write>(
     ensures errors { writer.new.errors ≡ write_errors result writer.old.errors }
     ensures flushes { writer.new.flushes ≡ writer.old.flushes }
     ensures err { IfErr result (λ f. f ≢ EngineFault.Read) }
-    ensures alone { IfErr result (λ f. f ≢ EngineFault.Spawn) }
+    ensures alone { IfErr result IsFaultInOrder }
 {
     let mut text = Vec::new(alloc);
     let mut place = 0;
@@ -67,7 +67,7 @@ fn run_log<W: Write>(
     ensures begun { AppendsFront (W.contents writer.old.inner) (W.contents writer.new.inner)
         (log_text collected.now.log collected.now.lines.items) }
     ensures err { IfErr result (λ f. f ≢ EngineFault.Read) }
-    ensures alone { IfErr result (λ f. f ≢ EngineFault.Spawn) }
+    ensures alone { IfErr result IsFaultInOrder }
     ensures write { result ≡ Err EngineFault.Write → writer.old.errors < 2 ^ 64 - 1 → writer.old.errors < writer.new.errors }
     ensures whole { OnOk result (writer.new.errors ≡ writer.old.errors) }
     ensures flushed { OnOk result ((writer.new.flushes ≡ raised writer.old.flushes) × (writer.new.is_flushed ≡ true)) }
@@ -95,19 +95,13 @@ pub fn serial_text<R: Read, W: Write>(
     writer: &mut Counted<W>,
     seed: HashSeed,
 ) -> Result<(), EngineFault>
-    // What was written is the report of what was read.
-    ensures done { OnOk result (WritesReport (R.remaining reader.old.inner) (W.contents writer.old.inner) (W.contents writer.new.inner)) }
-    // After a fault it is a beginning of it.
-    ensures begun { WritesBegunReport (R.remaining reader.old.inner) (W.contents writer.old.inner) (W.contents writer.new.inner) }
-    // Read and Write come only where the reader or the writer failed.
-    ensures read { result ≡ Err EngineFault.Read → reader.old.errors < 2 ^ 64 - 1 → reader.old.errors < reader.new.errors }
-    ensures write { result ≡ Err EngineFault.Write → writer.old.errors < 2 ^ 64 - 1 → writer.old.errors < writer.new.errors }
-    // Ok says that neither of them failed, in the flush at the end neither.
-    ensures whole { OnOk result ((reader.new.errors ≡ reader.old.errors) × (writer.new.errors ≡ writer.old.errors)) }
-    // Ok says that the writer was flushed once, and not written to since.
-    ensures flushed { OnOk result ((writer.new.flushes ≡ raised writer.old.flushes) × (writer.new.is_flushed ≡ true)) }
-    // No thread is started.
-    ensures alone { IfErr result (λ f. f ≢ EngineFault.Spawn) }
+    // What was written is the report of what was read, and after a fault a beginning of it.
+    ensures report { ReportsInput (R.remaining reader.old.inner) (W.contents writer.old.inner) (W.contents writer.new.inner) result }
+    // Read and Write come only where the reader or the writer failed. Ok says that neither of them failed, in the flush at the end neither,
+    // and that the writer was flushed once and not written to since.
+    ensures failures { CountsFailures EngineFault.Read EngineFault.Write reader.old reader.new writer.old writer.new result }
+    // There is no setting to be bad, and no thread to be started.
+    ensures alone { IfErr result IsFaultInOrder }
 {
     let mut pending = Vec::with_capacity(alloc, PENDING_BYTES)?;
     let collected = collect_lines(alloc, reader, seed)?;

@@ -15,4 +15,4 @@ trim_to-requires-clause-order g c =
     omega (arith, c.len-end.ensures.count, ap (λ (log : Accepted). length log.statements) c.log.ensures.value) in
     let same : mark_behind settings c.finished-place.result c.len-end.result ≡ mark_behind settings (finished old) (length old.log.statements) =
     ap (λ (n : ℕ). mark_behind settings n c.len-end.result) start ∙ ap (mark_behind settings (finished old)) end in
-    omega (arith, c.in-Ok.ensures.mark, waits_for c.args.runner.now.plan c.args.batching.now c.requires.filling, c.mark_behind.ensures, same)
+    omega (arith, c.in_ok-run_to.ensures.runs.mark, waits_for c.args.runner.now.plan c.args.batching.now c.requires.filling, c.mark_behind.ensures, same)

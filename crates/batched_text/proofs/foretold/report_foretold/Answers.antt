@@ -29,8 +29,8 @@ returns-in_err-report_batch-in-Dropped g c =
     runs_then c.args.runner.now.plan c.args.buffered.now c.args.from c.groups.at c.args.batching.now c.groups.batching c.report_batch.new.batching
     c.from_residual-in_err-report_batch-in-Dropped.result c.groups.invariant.runs
     (runs_early_told c.args.runner.now.plan c.args.buffered.now c.groups.at c.in_ok-at.at c.groups.batching c.report_each.new.batching c.report_batch.new.batching
-    c.in_err-report_batch-in-Dropped.field-0.0 c.from_residual-in_err-report_batch-in-Dropped.result c.in_ok-at.ensures c.in_err-report_batch-in-Dropped.ensures.err
-    c.in_err-report_batch-in-Dropped.ensures.stops c.from_residual-in_err-report_batch-in-Dropped.ensures.1)
+    c.in_err-report_batch-in-Dropped.field-0.0 c.from_residual-in_err-report_batch-in-Dropped.result c.in_ok-at.ensures c.in_err-report_batch-in-Dropped.ensures.err.1
+    c.in_err-report_batch-in-Dropped.ensures.err.0 c.from_residual-in_err-report_batch-in-Dropped.ensures.1)
 
 pub groups-preserved : goal.groups-preserved
 groups-preserved g c =

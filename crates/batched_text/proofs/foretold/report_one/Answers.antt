@@ -31,7 +31,7 @@ returns-in_err-report_full g c =
     let fault = c.in_err-report_full.field-0.0 in
     runs_told c.args.runner.now.plan c.args.buffered.now c.args.from c.args.batching.now c.report_full.new.batching fault c.from_residual-in_err-report_full.result
     (runs_fault c.args.runner.now.plan c.args.buffered.now c.args.from c.args.batching.now c.report_full.new.batching (Err fault)
-    (c.in_err-report_full.ensures.err ∙ c.in_ok-count.ensures.pending) c.in_err-report_full.ensures.stops)
+    (c.in_err-report_full.ensures.err.1 ∙ c.in_ok-count.ensures.pending) c.in_err-report_full.ensures.err.0)
     c.from_residual-in_err-report_full.ensures.1
 
 pub returns : goal.returns

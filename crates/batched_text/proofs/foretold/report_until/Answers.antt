@@ -35,7 +35,7 @@ returns-in_err-report_full g c =
     runs_then c.args.runner.now.plan c.args.buffered.now c.args.from c.lines.at c.args.batching.now c.lines.batching c.report_full.new.batching c.from_residual-in_err-report_full.result c.lines.invariant
     (runs_told c.args.runner.now.plan c.args.buffered.now c.lines.at c.lines.batching c.report_full.new.batching fault c.from_residual-in_err-report_full.result
     (runs_fault c.args.runner.now.plan c.args.buffered.now c.lines.at c.lines.batching c.report_full.new.batching (Err fault)
-    (c.in_err-report_full.ensures.err ∙ c.in_ok-count.ensures.pending) c.in_err-report_full.ensures.stops)
+    (c.in_err-report_full.ensures.err.1 ∙ c.in_ok-count.ensures.pending) c.in_err-report_full.ensures.err.0)
     c.from_residual-in_err-report_full.ensures.1)
 
 pub lines-preserved : goal.lines-preserved

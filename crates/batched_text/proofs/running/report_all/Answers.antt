@@ -21,22 +21,22 @@ use Rattle.batched_text.proofs.running.report_all.Goals.{in-Kept, in-Dropped+in_
 use Rattle.batched_text.proofs.running.report_all.Goals as goal
 
 pub returns-in_err-lines-clause-begun : goal.returns-in_err-lines-clause-begun
-returns-in_err-lines-clause-begun g c = begun_start total_in _ _ _ c.requires.first.nothing
+returns-in_err-lines-clause-begun g c = begun_start total_in _ _ _ c.requires.1.nothing
 
 pub returns-in_err-lines-clause-begun_read : goal.returns-in_err-lines-clause-begun_read
-returns-in_err-lines-clause-begun_read g c = read_begun_start total_in _ _ _ c.requires.first.nothing
+returns-in_err-lines-clause-begun_read g c = read_begun_start total_in _ _ _ c.requires.1.nothing
 
 pub turns-init : goal.turns-init
 turns-init g c = record {
-  names = rw (c.seeded-lookahead.ensures, ap (λ (log : Accepted). log.names) c.requires.first.log) (begins_same no_names);
-  nothing = c.requires.first.nothing;
-  none = none_wait c.args.runner.now.plan.history _ c.requires.first.nobody;
+  names = rw (c.seeded-lookahead.ensures, ap (λ (log : Accepted). log.names) c.requires.1.log) (begins_same no_names);
+  nothing = c.requires.1.nothing;
+  none = none_wait c.args.runner.now.plan.history _ c.requires.1.nobody;
   ready = record {
-    room = open_first c.args.runner.now.plan c.args.batching.now c.requires.within c.requires.first;
+    room = open_first c.args.runner.now.plan c.args.batching.now c.requires.0 c.requires.1;
     bounded = search rules;
     numbered = search rules;
   };
-  batched = batched_start _ _ _ c.args.batching.now c.in_ok-lines.ensures c.requires.first;
+  batched = batched_start _ _ _ c.args.batching.now c.in_ok-lines.ensures c.requires.1;
   read_errors = refl;
   write_errors = refl;
   flushes = refl;
@@ -69,7 +69,7 @@ returns-in_err-report_batch-in-Dropped-clause-begun g c =
     let so = took.batched _ _ c.turns.invariant.batched in
     let told = runs_early_fault c.args.runner.now.plan (record { bytes = c.bytes_ahead-bytes.result; given = c.report_line.new.reader.given }) 0 c.in_ok-taken.taken c.report_line.new.batching
     c.deal_at_hand.new.batching c.report_batch.new.batching (Err c.in_err-report_batch-in-Dropped.field-0.0) c.in_ok-taken.ensures.runs
-    c.in_err-report_batch-in-Dropped.ensures.err c.in_err-report_batch-in-Dropped.ensures.stops in
+    c.in_err-report_batch-in-Dropped.ensures.err.1 c.in_err-report_batch-in-Dropped.ensures.err.0 in
     let begun = rw c.bytes_ahead-bytes.ensures at told.begun in
     begun _ (g.R.Read.remaining c.args.reader.now.inner) (g.W.Write.contents c.args.writer.now.inner) _ so
 
@@ -79,7 +79,7 @@ returns-in_err-report_batch-in-Dropped-clause-begun_read g c =
     let so = took.batched _ _ c.turns.invariant.batched in
     let told = runs_early_fault c.args.runner.now.plan (record { bytes = c.bytes_ahead-bytes.result; given = c.report_line.new.reader.given }) 0 c.in_ok-taken.taken c.report_line.new.batching
     c.deal_at_hand.new.batching c.report_batch.new.batching (Err c.in_err-report_batch-in-Dropped.field-0.0) c.in_ok-taken.ensures.runs
-    c.in_err-report_batch-in-Dropped.ensures.err c.in_err-report_batch-in-Dropped.ensures.stops in
+    c.in_err-report_batch-in-Dropped.ensures.err.1 c.in_err-report_batch-in-Dropped.ensures.err.0 in
     let begun = rw c.bytes_ahead-bytes.ensures at told.begun in
     run_begun (g.R.Read.remaining c.args.reader.now.inner) _ (g.W.Write.contents c.args.writer.now.inner) _ (ahead c.report_line.new.lines) c.report_line.new.batching c.report_batch.new.batching begun so
 
@@ -134,13 +134,13 @@ pub returns-in_err-report_batch-in-Dropped-clause-reads : goal.returns-in_err-re
 returns-in_err-report_batch-in-Dropped-clause-reads g c =
     c.in_ok-report_line.ensures.reads ∙ c.turns.invariant.read_errors
     ∙ reads_told _ c.in_err-report_batch-in-Dropped.field-0.0 c.from_residual-in_err-report_batch-in-Dropped.result c.args.reader.now.errors c.from_residual-in_err-report_batch-in-Dropped.ensures.1
-    c.in_err-report_batch-in-Dropped.ensures.stops
+    c.in_err-report_batch-in-Dropped.ensures.err.0
 
 pub returns-in_err-report_batch-in-Dropped-clause-writes : goal.returns-in_err-report_batch-in-Dropped-clause-writes
 returns-in_err-report_batch-in-Dropped-clause-writes g c =
     c.turns.invariant.write_errors
     ∙ writes_told _ c.in_err-report_batch-in-Dropped.field-0.0 c.from_residual-in_err-report_batch-in-Dropped.result c.args.writer.now.errors c.from_residual-in_err-report_batch-in-Dropped.ensures.1
-    c.in_err-report_batch-in-Dropped.ensures.stops
+    c.in_err-report_batch-in-Dropped.ensures.err.0
 
 pub returns-in_err-write_pending-clause-reads : goal.returns-in_err-write_pending-clause-reads
 returns-in_err-write_pending-clause-reads g c =
@@ -220,26 +220,22 @@ pub report_batch-requires-2-clause-filling : goal.report_batch-requires-2-clause
 report_batch-requires-2-clause-filling g c κs within = ((rw c.if-branch.false at (c.in_ok-report_line.ensures.turn (g.W.Write.contents c.turns.writer.inner)).room) refl).filling
 
 pub returns-in_err-report_batch-clause-begun : goal.returns-in_err-report_batch-clause-begun
-returns-in_err-report_batch-clause-begun g c = rw c.in_err-report_batch.ensures.err ((c.in_ok-report_line.ensures.turn (g.W.Write.contents c.turns.writer.inner)).begun _ _ c.turns.invariant.batched)
+returns-in_err-report_batch-clause-begun g c = rw c.in_err-report_batch.ensures.err.1 ((c.in_ok-report_line.ensures.turn (g.W.Write.contents c.turns.writer.inner)).begun _ _ c.turns.invariant.batched)
 
 pub returns-in_err-report_batch-clause-begun_read : goal.returns-in_err-report_batch-clause-begun_read
-returns-in_err-report_batch-clause-begun_read g c = rw c.in_err-report_batch.ensures.err ((c.in_ok-report_line.ensures.turn (g.W.Write.contents c.turns.writer.inner)).begun_read _ _ c.turns.invariant.batched)
+returns-in_err-report_batch-clause-begun_read g c = rw c.in_err-report_batch.ensures.err.1 ((c.in_ok-report_line.ensures.turn (g.W.Write.contents c.turns.writer.inner)).begun_read _ _ c.turns.invariant.batched)
 
-pub returns-clause-log : goal.returns-clause-log
-returns-clause-log g c =
-    let ended = (rw c.if-branch.false at (c.in_ok-report_line.ensures.turn (g.W.Write.contents c.turns.writer.inner)).ended) refl _ _ c.turns.invariant.batched in
-    subst (λ (log : Accepted). IsLogOfText (g.R.Read.remaining c.args.reader.now.inner) log) (sym c.in_ok-report_batch.ensures.reports.log) (log_ended _ _ _ _ c.report_line.new.batching ended)
-
-pub returns-clause-kept : goal.returns-clause-kept
-returns-clause-kept g c = c.in_ok-report_batch.ensures.reports.kept
-
-pub returns-clause-all : goal.returns-clause-all
-returns-clause-all g c = c.in_ok-report_batch.ensures.reports.all ∙ ap (λ (log : Accepted). length log.statements) (sym c.in_ok-report_batch.ensures.reports.log)
-
-pub returns-clause-trimmed : goal.returns-clause-trimmed
-returns-clause-trimmed g c =
-    trimmed_all c.args.runner.now.plan c.report_line.new.batching c.report_batch-2.new.batching c.in_ok-report_batch.ensures.reports
-    ((rw c.if-branch.false at (c.in_ok-report_line.ensures.turn (g.W.Write.contents c.turns.writer.inner)).room) refl).filling
+pub returns-clause-ran : goal.returns-clause-ran
+returns-clause-ran g c =
+    let turn = c.in_ok-report_line.ensures.turn (g.W.Write.contents c.turns.writer.inner) in
+    let ended = (rw c.if-branch.false at turn.ended) refl _ _ c.turns.invariant.batched in
+    let put = c.in_ok-report_batch.ensures.reports in
+    record {
+      log = subst (λ (log : Accepted). IsLogOfText (g.R.Read.remaining c.args.reader.now.inner) log) (sym put.log) (log_ended _ _ _ _ c.report_line.new.batching ended);
+      all = put.all ∙ ap (λ (log : Accepted). length log.statements) (sym put.log);
+      trimmed = trimmed_all c.args.runner.now.plan c.report_line.new.batching c.report_batch-2.new.batching put ((rw c.if-branch.false at turn.room) refl).filling;
+      kept = put.kept;
+    }
 
 pub returns-clause-done : goal.returns-clause-done
 returns-clause-done g c =
@@ -262,10 +258,10 @@ pub returns-in_err-report_batch-clause-reads : goal.returns-in_err-report_batch-
 returns-in_err-report_batch-clause-reads g c =
     c.in_ok-report_line.ensures.reads ∙ c.turns.invariant.read_errors
     ∙ reads_told _ c.in_err-report_batch.field-0.0 c.from_residual-in_err-report_batch.result c.args.reader.now.errors
-    c.from_residual-in_err-report_batch.ensures.1 c.in_err-report_batch.ensures.stops
+    c.from_residual-in_err-report_batch.ensures.1 c.in_err-report_batch.ensures.err.0
 
 pub returns-in_err-report_batch-clause-writes : goal.returns-in_err-report_batch-clause-writes
 returns-in_err-report_batch-clause-writes g c =
     c.turns.invariant.write_errors
     ∙ writes_told _ c.in_err-report_batch.field-0.0 c.from_residual-in_err-report_batch.result c.args.writer.now.errors
-    c.from_residual-in_err-report_batch.ensures.1 c.in_err-report_batch.ensures.stops
+    c.from_residual-in_err-report_batch.ensures.1 c.in_err-report_batch.ensures.err.0

@@ -32,8 +32,8 @@ returns-in_err-deal-clause-turn g c = λ held. record {
   taken = search rules;
   room = search rules;
   ended = search rules;
-  begun = λ input out so. rw c.in_err-deal.ensures.pending (begun_batched total_in input _ out _ _ _ _ _ _ so);
-  begun_read = λ input out so. rw c.in_err-deal.ensures.pending
+  begun = λ input out so. rw c.in_err-deal.ensures.err.1 (begun_batched total_in input _ out _ _ _ _ _ _ so);
+  begun_read = λ input out so. rw c.in_err-deal.ensures.err.1
       (read_begun _ _ _ _ _ _ _ total_in input _ _ (ahead c.args.lines.now) so c.in_ok-next_line.ensures.left);
 }
 
@@ -77,8 +77,8 @@ returns-clause-begins g c =
 pub returns-in_err-deal-clause-reads : goal.returns-in_err-deal-clause-reads
 returns-in_err-deal-clause-reads g c =
     c.in_ok-next_line.ensures.other (λ is. cc is)
-    ∙ reads_told _ c.in_err-deal.field-0.0 c.from_residual-in_err-deal.result c.args.reader.now.errors c.from_residual-in_err-deal.ensures.1 c.in_err-deal.ensures.err
+    ∙ reads_told _ c.in_err-deal.field-0.0 c.from_residual-in_err-deal.result c.args.reader.now.errors c.from_residual-in_err-deal.ensures.1 c.in_err-deal.ensures.err.0
 
 pub returns-in_err-deal-clause-err : goal.returns-in_err-deal-clause-err
 returns-in_err-deal-clause-err g c =
-    writes_never c.in_err-deal.field-0.0 c.from_residual-in_err-deal.result c.from_residual-in_err-deal.ensures.1 c.in_err-deal.ensures.err
+    writes_never c.in_err-deal.field-0.0 c.from_residual-in_err-deal.result c.from_residual-in_err-deal.ensures.1 c.in_err-deal.ensures.err.0

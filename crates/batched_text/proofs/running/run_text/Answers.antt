@@ -1,25 +1,13 @@
-use Rattle.std.proofs.Common.{◌∙◌, ap, refl, sym}
-use Rattle.std.specs.Prelude.{Err}
 use Rattle.bohm_base.proofs.Beginnings.{nothing_written}
+use Rattle.bohm_base.proofs.RunResults.{fault_reports}
 use Rattle.log_text.proofs.Total.{total_in}
-use Rattle.batched_text.proofs.Faults.{never_bad, read_told, write_told}
 use Rattle.batched_text.proofs.ReadSofar.{read_nothing}
 use Rattle.batched_text.proofs.running.run_text.Goals as goal
 
-pub returns-then-not-are_within_limits-clause-begun : goal.returns-then-not-are_within_limits-clause-begun
-returns-then-not-are_within_limits-clause-begun g c = nothing_written total_in _ _
+pub returns-then-not-are_within_limits-clause-report : goal.returns-then-not-are_within_limits-clause-report
+returns-then-not-are_within_limits-clause-report g c = ((tt, nothing_written total_in _ _), read_nothing total_in _ _)
 
-pub returns-then-not-are_within_limits-clause-begun_read : goal.returns-then-not-are_within_limits-clause-begun_read
-returns-then-not-are_within_limits-clause-begun_read g c = read_nothing total_in _ _
-
-pub returns-in-Err-clause-read : goal.returns-in-Err-clause-read
-returns-in-Err-clause-read g c = λ is small. c.run_batches.ensures.read (c.in-Err.is ∙ ap Err (read_told c.in-Err.fault c.engine_fault.result (Err c.engine_fault.result) c.engine_fault.ensures refl is)) small
-
-pub returns-in-Err-clause-write : goal.returns-in-Err-clause-write
-returns-in-Err-clause-write g c = λ is small. c.run_batches.ensures.write (c.in-Err.is ∙ ap Err (write_told c.in-Err.fault c.engine_fault.result (Err c.engine_fault.result) c.engine_fault.ensures refl is)) small
-
-pub returns-in-Err-clause-bad : goal.returns-in-Err-clause-bad
-returns-in-Err-clause-bad g c = (λ is. absurd (never_bad c.in-Err.fault c.engine_fault.result (Err c.engine_fault.result) c.engine_fault.ensures refl is), λ outside. absurd (cc (sym outside ∙ sym c.if-not-are_within_limits.ensures)))
-
-pub returns-in-Err-clause-nothing : goal.returns-in-Err-clause-nothing
-returns-in-Err-clause-nothing g c = λ is. absurd (never_bad c.in-Err.fault c.engine_fault.result (Err c.engine_fault.result) c.engine_fault.ensures refl is)
+pub returns-in_err-run_batches-clause-report : goal.returns-in_err-run_batches-clause-report
+returns-in_err-run_batches-clause-report g c =
+    let reports = c.run_batches.ensures.report in
+    (fault_reports _ _ _ _ c.from_residual.result c.from_residual.ensures.1 reports.0.1, reports.1)
