@@ -6,3 +6,4 @@ pub mod Below
 pub mod Fallen
 pub mod Lines
 pub mod SpelledRecords
+pub mod Failing

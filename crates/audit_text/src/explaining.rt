@@ -1,10 +1,12 @@
 //! Why a place of the text of a log was admitted or denied.
 
-ghost use Rattle.std.specs.Prelude.{◌≡◌, ◌<◌, ◌≤◌, ◌-◌, ◌^◌, ◌⊎◌, ℕ, List, Err, IfSome, OnOk, length, true};
+ghost use Rattle.std.specs.Prelude.{◌≡◌, ◌≤◌, ◌⊎◌, ℕ, List, Err, IfSome, OnOk, length, true};
 ghost use Rattle.std.specs.Io.KnownBytes.{Appends};
+ghost use Rattle.line_io.specs.Failures.{CountsFailures};
 ghost use Rattle.line_io.specs.Known.{AppendsFront, raised};
 ghost use Rattle.engine.specs.Engine.{finished};
 ghost use Rattle.audit_text.specs.Answer.{HasNoPlace, AnswersAccepted, IsExplanation};
+ghost use Rattle.audit_text.specs.Texts.{SaysText};
 
 use crate::fault::AuditFault;
 use crate::putting::put_answer;
@@ -66,22 +68,14 @@ pub fn explain_text<T: Threads + Wait + Sync, R: Read, W: Write>(
     seed: HashSeed,
 ) -> Result<(), AuditFault>
     // What was written is the explanation of the place of the whole log, of which only the lines up to the place's were taken.
-    ensures done { OnOk result (IfSome (R.remaining reader.old.inner) (λ input. (text : List ℕ)
-        × (IsExplanation input question text × Appends (W.contents writer.old.inner) (W.contents writer.new.inner) text))) }
     // After a fault it is a beginning of it, or nothing.
-    ensures begun { IfSome (R.remaining reader.old.inner) (λ input. (W.contents writer.new.inner ≡ W.contents writer.old.inner)
-        ⊎ ((text : List ℕ) × (IsExplanation input question text
-        × AppendsFront (W.contents writer.old.inner) (W.contents writer.new.inner) text))) }
+    ensures text { SaysText (λ input text. IsExplanation input question text)
+        (R.remaining reader.old.inner) (W.contents writer.old.inner) (W.contents writer.new.inner) result }
     // NoSuchPlace comes only where the log of the text has no such place, and nothing is written then.
     ensures none { result ≡ Err AuditFault.NoSuchPlace
         → (writer.new ≡ writer.old) × IfSome (R.remaining reader.old.inner) (λ input. HasNoPlace input question.place) }
-    // Read and Write come only where the reader or the writer failed.
-    ensures read { result ≡ Err AuditFault.Read → reader.old.errors < 2 ^ 64 - 1 → reader.old.errors < reader.new.errors }
-    ensures write { result ≡ Err AuditFault.Write → writer.old.errors < 2 ^ 64 - 1 → writer.old.errors < writer.new.errors }
-    // Ok says that neither of them failed, in the flush at the end neither.
-    ensures whole { OnOk result ((reader.new.errors ≡ reader.old.errors) × (writer.new.errors ≡ writer.old.errors)) }
-    // Ok says that the writer was flushed once, and not written to since.
-    ensures flushed { OnOk result ((writer.new.flushes ≡ raised writer.old.flushes) × (writer.new.is_flushed ≡ true)) }
+    // Read and Write come only where the reader or the writer failed. Ok says that neither did, and that the writer was flushed at the end.
+    ensures failures { CountsFailures AuditFault.Read AuditFault.Write reader.old reader.new writer.old writer.new result }
 {
     let engine = run_quietly_to(rt, alloc, reader, Some(question.place), seed)?;
     write_answer(alloc, writer, &engine, question)

@@ -1,10 +1,12 @@
 //! The grants in force before a place of the text of a log, as a picture.
 
-ghost use Rattle.std.specs.Prelude.{◌≡◌, ◌<◌, ◌-◌, ◌^◌, ◌⊎◌, [], ℕ, List, Err, IfErr, IfSome, OnOk, length, true};
+ghost use Rattle.std.specs.Prelude.{◌≡◌, ◌<◌, ◌⊎◌, [], ℕ, List, Err, IfErr, IfSome, OnOk, length, true};
 ghost use Rattle.std.specs.Io.KnownBytes.{Appends};
+ghost use Rattle.line_io.specs.Failures.{CountsFailures};
 ghost use Rattle.line_io.specs.Known.{AppendsFront, raised};
 ghost use Rattle.engine.specs.Engine.{finished};
 ghost use Rattle.audit_text.specs.Picture.{EndsBefore, IsPicture, IsPictureOf, place_before};
+ghost use Rattle.audit_text.specs.Texts.{SaysText};
 
 use crate::fault::AuditFault;
 use crate::graph::put_graph;
@@ -77,22 +79,14 @@ pub fn grants_text<T: Threads + Wait + Sync, R: Read, W: Write>(
     seed: HashSeed,
 ) -> Result<(), AuditFault>
     // What was written is the picture of the grants before the place, by the log's beginning up to the place and with it.
-    ensures done { OnOk result (IfSome (R.remaining reader.old.inner) (λ input. (text : List ℕ)
-        × (IsPicture input limit text × Appends (W.contents writer.old.inner) (W.contents writer.new.inner) text))) }
     // After a fault it is a beginning of it, or nothing.
-    ensures begun { IfSome (R.remaining reader.old.inner) (λ input. (W.contents writer.new.inner ≡ W.contents writer.old.inner)
-        ⊎ ((text : List ℕ) × (IsPicture input limit text
-        × AppendsFront (W.contents writer.old.inner) (W.contents writer.new.inner) text))) }
+    ensures text { SaysText (λ input text. IsPicture input limit text)
+        (R.remaining reader.old.inner) (W.contents writer.old.inner) (W.contents writer.new.inner) result }
     // NoSuchPlace comes only where the log of the text ends before the place, and nothing is written then.
     ensures none { result ≡ Err AuditFault.NoSuchPlace
         → (writer.new ≡ writer.old) × IfSome (R.remaining reader.old.inner) (λ input. EndsBefore input limit) }
-    // Read and Write come only where the reader or the writer failed.
-    ensures read { result ≡ Err AuditFault.Read → reader.old.errors < 2 ^ 64 - 1 → reader.old.errors < reader.new.errors }
-    ensures write { result ≡ Err AuditFault.Write → writer.old.errors < 2 ^ 64 - 1 → writer.old.errors < writer.new.errors }
-    // Ok says that neither of them failed, in the flush at the end neither.
-    ensures whole { OnOk result ((reader.new.errors ≡ reader.old.errors) × (writer.new.errors ≡ writer.old.errors)) }
-    // Ok says that the writer was flushed once, and not written to since.
-    ensures flushed { OnOk result ((writer.new.flushes ≡ raised writer.old.flushes) × (writer.new.is_flushed ≡ true)) }
+    // Read and Write come only where the reader or the writer failed. Ok says that neither did, and that the writer was flushed at the end.
+    ensures failures { CountsFailures AuditFault.Read AuditFault.Write reader.old reader.new writer.old writer.new result }
 {
     let engine = run_quietly_to(rt, alloc, reader, limit, seed)?;
     write_picture(alloc, writer, &engine, limit)

@@ -3,4 +3,4 @@ pub mod Running
 pub mod Shapes
 pub mod Ways
 pub mod Words
-pub mod Works
+pub mod Tasks

@@ -1,5 +1,5 @@
 -- The numbers among the words: the options of `run` and their rules, and the places that are asked of.
-use Rattle.std.specs.Prelude.{◌&&◌, ◌==◌, ℕ, Bool, List, [], ◌∷◌, Option, Some, None, bytes_eq, codes, false, if◌then◌else◌, option_and_then, option_map}
+use Rattle.std.specs.Prelude.{◌&&◌, ◌==◌, ℕ, Bool, List, [], ◌∷◌, Option, Some, None, bytes_eq, codes, false, if◌then◌else◌, option_and_then, option_map, true}
 use Rattle.std.specs.Option.{option_map_or}
 use Rattle.std.specs.Str.Parse.{digits_value, without_leading_plus}
 use Rattle.clap.specs.ValueTests.{is_unsigned_in}
@@ -8,6 +8,8 @@ use Rattle.clap.specs.Simple.{App, new_rule, with_rule}
 use Rattle.clap.specs.declared.builder.value_parser.ValueParser.TheVariants as vp
 use Rattle.model_base.specs.declared.limits.TheConstants.{MOST_BATCH_STATEMENTS, MOST_KEPT_BATCHES, MOST_PARTITIONS, MOST_WORKERS}
 use Rattle.audit_text.specs.declared.question.Question.{Question}
+use Rattle.command_line.specs.declared.options.Choice.{Choice}
+use Rattle.command_line.specs.declared.options.Limit.{Limit}
 use Rattle.command_line.specs.declared.options.TheConstants.{MOST_AHEAD, MOST_PLACE}
 use Rattle.command_line.specs.declared.options.Progress.{Progress}
 
@@ -39,13 +41,28 @@ abbrev pub number_among : Text → ℕ → ℕ → List Row → Option ℕ
 number_among name least most rows = option_and_then (number_within least most) (first_of name rows)
 
 -- the number that a word gives, if there is a word, and if it is within these limits
-abbrev pub number_if : ℕ → ℕ → Option Text → Option (Option ℕ)
-number_if least most None = Some None
-number_if least most (Some text) = option_map (λ number. Some number) (number_within least most text)
+abbrev pub choice_within : ℕ → ℕ → Option Text → Option Choice
+choice_within least most None = Some Choice.Usual
+choice_within least most (Some text) = option_map (λ number. Choice.Given number) (number_within least most text)
 
 -- and so the number of an option, if it is given
-abbrev pub number_told : Text → ℕ → ℕ → List Row → Option (Option ℕ)
-number_told name least most rows = number_if least most (first_of name rows)
+abbrev pub choice_among : Text → ℕ → ℕ → List Row → Option Choice
+choice_among name least most rows = choice_within least most (first_of name rows)
+
+-- whether a number is given
+abbrev pub is_given : Choice → Bool
+is_given Choice.Usual = false
+is_given (Choice.Given number) = true
+
+-- the number that is given, or else the usual one
+abbrev pub given_or : Choice → ℕ → ℕ
+given_or Choice.Usual usual = usual
+given_or (Choice.Given number) usual = number
+
+-- of the number that is given, if one is
+abbrev pub IfGiven : Choice → (ℕ → Type 0) → Type 0
+IfGiven Choice.Usual P = Unit {0}
+IfGiven (Choice.Given number) P = P number
 
 -- whether the flag of this name is among the words
 abbrev pub has_flag : Text → List Row → Bool
@@ -63,6 +80,16 @@ question_among rows =
     option_map (λ place. record { place = place; is_checked = has_flag (codes "check") rows })
     (number_among (codes "PLACE") 0 MOST_PLACE rows)
 
--- the place of `grants`, if it has one
-abbrev pub limit_among : List Row → Option (Option ℕ)
-limit_among rows = number_told (codes "PLACE") 0 MOST_PLACE rows
+-- the limit by the place that is given, or else the end of the log
+abbrev pub limit_by : Choice → Limit
+limit_by Choice.Usual = Limit.End
+limit_by (Choice.Given place) = Limit.Before place
+
+-- the limit of `grants`, if its place is within the limits
+abbrev pub limit_among : List Row → Option Limit
+limit_among rows = option_map limit_by (choice_among (codes "PLACE") 0 MOST_PLACE rows)
+
+-- the place of a limit, if one is named
+abbrev pub place_named : Limit → Option ℕ
+place_named Limit.End = None
+place_named (Limit.Before place) = Some place

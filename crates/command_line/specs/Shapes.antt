@@ -1,6 +1,6 @@
 -- The program's words, as they are described to `clap`: its subcommands, their arguments and options.
 use Rattle.std.specs.Prelude.{List, Some, codes, map, true}
-use Rattle.clap.specs.Words.{App, Rule, Shape, Text, new_app, new_rule, with_rule, with_subcommand}
+use Rattle.clap.specs.Words.{App, Rule, Text, new_app, new_rule, with_rule, with_subcommand}
 use Rattle.clap.specs.declared.builder.action.ArgAction.TheVariants.{SetTrue}
 use Rattle.clap.specs.declared.builder.value_parser.ValueParser.TheVariants as vp
 use denote.Ref.{Bor}
@@ -26,34 +26,31 @@ flag_rule name = record (new_rule name) {
 abbrev pub with_progress : App → App
 with_progress command = with_rule (with_rule command (flag_rule (codes "progress"))) (flag_rule (codes "no-progress"))
 
--- `run` may have one word, FILE, and its options; each subcommand may have the flags for progress
-abbrev pub run_shape : Shape
-run_shape = (with_progress (with_options (with_rule (new_app (codes "run")) (new_rule (codes "FILE"))))).top
+-- `run` may have one word, FILE, and its options
+abbrev pub run_app : App
+run_app = with_options (with_rule (new_app (codes "run")) (new_rule (codes "FILE")))
 
--- `serial` has to have FILE
-abbrev pub serial_shape : Shape
-serial_shape = (with_progress (with_rule (new_app (codes "serial")) (required_rule (codes "FILE")))).top
+-- a subcommand of this name that has to have FILE, as `serial` is
+abbrev pub over_file : Text → App
+over_file name = with_rule (new_app name) (required_rule (codes "FILE"))
 
 -- `explain` has to have FILE and PLACE, and may have a flag of its own
-abbrev pub explain_shape : Shape
-explain_shape =
-    let explain = with_rule (new_app (codes "explain")) (required_rule (codes "FILE")) in
-    let explain = with_rule explain (place_rule (required_rule (codes "PLACE"))) in
-    (with_progress (with_rule explain (flag_rule (codes "check")))).top
+abbrev pub explain_app : App
+explain_app =
+    let explain = with_rule (over_file (codes "explain")) (place_rule (required_rule (codes "PLACE"))) in
+    with_rule explain (flag_rule (codes "check"))
 
 -- `grants` has to have FILE, and may have PLACE
-abbrev pub grants_shape : Shape
-grants_shape =
-    let grants = with_rule (new_app (codes "grants")) (required_rule (codes "FILE")) in
-    (with_progress (with_rule grants (place_rule (new_rule (codes "PLACE"))))).top
+abbrev pub grants_app : App
+grants_app = with_rule (over_file (codes "grants")) (place_rule (new_rule (codes "PLACE")))
 
--- the program has a version and these four subcommands, one of which has to be there
+-- the program has a version and these four subcommands, one of which has to be there; each may have the flags for progress
 abbrev pub bohm_app : App
 bohm_app =
-    let app = with_subcommand (new_app (codes "bohm")) run_shape in
-    let app = with_subcommand app serial_shape in
-    let app = with_subcommand app explain_shape in
-    let app = with_subcommand app grants_shape in
+    let app = with_subcommand (new_app (codes "bohm")) (with_progress run_app).top in
+    let app = with_subcommand app (with_progress (over_file (codes "serial"))).top in
+    let app = with_subcommand app (with_progress explain_app).top in
+    let app = with_subcommand app (with_progress grants_app).top in
     record app { top = record app.top { has_version = true; subcommand_required = true } }
 
 -- the texts of some words

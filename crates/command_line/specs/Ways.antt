@@ -1,10 +1,11 @@
 -- How a log is run, by the options of `run`.
-use Rattle.std.specs.Prelude.{◌≡◌, ◌≤◌, ◌&&◌, ◌||◌, ◌==◌, ℕ, Bool, IfSome, List, None, Option, Some, codes, if◌then◌else◌, is_some, option_and_then, true, unwrap_or}
+use Rattle.std.specs.Prelude.{◌≡◌, ◌≤◌, ◌&&◌, ◌||◌, ◌==◌, ℕ, Bool, List, None, Option, Some, codes, if◌then◌else◌, option_and_then, true}
 use Rattle.clap.specs.Words.{Row}
 use Rattle.model_base.specs.declared.limits.TheConstants.{MOST_BATCH_STATEMENTS, MOST_KEPT_BATCHES, MOST_PARTITIONS, MOST_WORKERS}
 use Rattle.batched_text.specs.Settings.{are_within_limits}
 use Rattle.batched_text.specs.declared.settings.Settings.{Settings}
-use Rattle.command_line.specs.Options.{number_among, number_told}
+use Rattle.command_line.specs.Options.{IfGiven, choice_among, given_or, is_given, number_among}
+use Rattle.command_line.specs.declared.options.Choice.{Choice}
 use Rattle.command_line.specs.declared.options.TheConstants.{MOST_AHEAD, USUAL_SHARE}
 use Rattle.command_line.specs.declared.options.Way.{Way}
 
@@ -16,20 +17,20 @@ is_alone settings = settings.workers == 1 && settings.partitions == 1
 -- read ahead
 abbrev pub way_by : Settings → ℕ → Option Way
 way_by settings ahead =
-    if is_alone settings then Some (Way.InOrder (Some ahead))
+    if is_alone settings then Some (Way.InOrder (Choice.Given ahead))
     else (if ahead == 0 then Some (Way.InBatches settings) else None)
 
 -- the way by the numbers that are given: by settings where workers or partitions are, in which what isn't given of the two is the usual
 -- share, and otherwise in order
-abbrev pub way_told : Option ℕ → Option ℕ → ℕ → ℕ → Option ℕ → Option Way
+abbrev pub way_told : Choice → Choice → ℕ → ℕ → Choice → Option Way
 way_told workers partitions batch keep ahead =
-    if is_some workers || is_some partitions then way_by (record {
-      workers = unwrap_or workers USUAL_SHARE;
-      partitions = unwrap_or partitions USUAL_SHARE;
+    if is_given workers || is_given partitions then way_by (record {
+      workers = given_or workers USUAL_SHARE;
+      partitions = given_or partitions USUAL_SHARE;
       batch = batch;
       keep = keep;
     })
-    (unwrap_or ahead 0)
+    (given_or ahead 0)
     else Some (Way.InOrder ahead)
 
 -- the way that the options give, if each is within its limits
@@ -37,13 +38,13 @@ abbrev pub way_among : List Row → Option Way
 way_among rows =
     option_and_then (λ workers. option_and_then (λ partitions. option_and_then (λ batch. option_and_then (λ keep. option_and_then (λ ahead.
     way_told workers partitions batch keep ahead)
-    (number_told (codes "ahead") 0 MOST_AHEAD rows))
+    (choice_among (codes "ahead") 0 MOST_AHEAD rows))
     (number_among (codes "keep") 0 MOST_KEPT_BATCHES rows))
     (number_among (codes "batch") 1 MOST_BATCH_STATEMENTS rows))
-    (number_told (codes "partitions") 1 MOST_PARTITIONS rows))
-    (number_told (codes "workers") 1 MOST_WORKERS rows)
+    (choice_among (codes "partitions") 1 MOST_PARTITIONS rows))
+    (choice_among (codes "workers") 1 MOST_WORKERS rows)
 
 -- the numbers of a way are within their limits
 abbrev pub IsWithin : Way → Type 0
-IsWithin (Way.InOrder ahead) = IfSome ahead (λ threads. threads ≤ MOST_AHEAD)
+IsWithin (Way.InOrder ahead) = IfGiven ahead (λ threads. threads ≤ MOST_AHEAD)
 IsWithin (Way.InBatches settings) = are_within_limits settings ≡ true

@@ -12,6 +12,7 @@ use Rattle.command_line.specs.declared.command_words.ProgramFault.{ProgramFault}
 use Rattle.command_line.specs.declared.command_words.Source.{Source}
 use Rattle.command_line.specs.declared.command_words.Usage.{Usage}
 use Rattle.command_line.specs.declared.command_words.Verb.{Verb}
+use Rattle.command_line.specs.declared.options.Limit.{Limit}
 use Rattle.command_line.specs.declared.options.Progress.{Progress}
 use Rattle.command_line.specs.declared.options.Way.{Way}
 use Rattle.command_line.specs.declared.work.WorkFault.{WorkFault}
@@ -79,7 +80,7 @@ pub data Asked : Type 0 where
   run : Option Text → Way → Asked
   serial : Option Text → Asked
   explain : Option Text → Question → Asked
-  grants : Option Text → Option ℕ → Asked
+  grants : Option Text → Limit → Asked
 
 -- what a subcommand asks for with these words, if its numbers are within their limits
 abbrev pub asked_by : Verb → Option Text → List Row → Option Asked

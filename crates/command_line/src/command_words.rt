@@ -6,14 +6,13 @@ ghost use Rattle.clap.specs.Words.{fault_of, found_of, kind_of, rows_of, subcomm
 ghost use Rattle.command_line.specs.Shapes.{bohm_app, texts_of};
 ghost use Rattle.command_line.specs.Words.{Asks, AsksOutsideLimits, IsWithinLimits, TellsError, TellsOneOf, asked, asked_by, asked_in, message_of, path_named, path_of, progress_in, status_of, verb_named};
 
-use crate::options::{Progress, Way, limit_of, progress_of, question_of, way_of};
+use crate::options::{Limit, Progress, Way, limit_of, progress_of, question_of, way_of};
 use crate::subcommands::program;
 use crate::work::WorkFault;
 use audit_text::Question;
 use bohm_base::ArgumentFault;
 use clap::error::ErrorKind;
 use clap::{ArgMatches, Error};
-use model_base::Place;
 use std::alloc::Global;
 
 /// Where a log is read from.
@@ -34,7 +33,7 @@ pub enum Command<'a> {
     /// Answer a question about a place of a log.
     Explain(Source<'a>, Question),
     /// Write the grants in force before a place of a log, or at its end.
-    Grants(Source<'a>, Option<Place>),
+    Grants(Source<'a>, Limit),
 }
 
 impl<'a> Command<'a> {

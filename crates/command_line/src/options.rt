@@ -1,12 +1,11 @@
 //! The numbers among the words: the options of `run`, by how many workers and partitions its log is run, how it is cut into batches,
 //! and how many threads read its lines ahead; and the places of which `explain` and `grants` are asked.
 
-ghost use Rattle.std.specs.Prelude.{◌≡◌, ◌≤◌, ◌∷◌, ◌||◌, [], IfOk, IfSome, codes, is_some, option_map, true, unwrap_or};
+ghost use Rattle.std.specs.Prelude.{◌≡◌, ◌≤◌, ◌∷◌, ◌||◌, [], IfOk, IfSome, codes, option_map, true};
 ghost use Rattle.command_line.specs.Ways.{IsWithin, is_alone, way_among, way_by, way_told};
 ghost use Rattle.clap.specs.Words.{app_of, found_of, rows_of, with_rule};
-ghost use Rattle.clap.specs.Walk.{first_of};
 ghost use Rattle.batched_text.specs.Settings.{are_within_limits};
-ghost use Rattle.command_line.specs.Options.{has_flag, limit_among, number_among, number_if, number_rule, number_within, progress_among, question_among, with_options};
+ghost use Rattle.command_line.specs.Options.{IfGiven, choice_among, choice_within, given_or, has_flag, is_given, limit_among, limit_by, number_among, number_rule, number_within, place_named, progress_among, question_among, with_options};
 
 use audit_text::Question;
 use batched_text::Settings;
@@ -138,34 +137,43 @@ fn number_of(found: &ArgMatches<'_>, option: &NumberOption) -> Option<u64>
     }
 }
 
-/// The number that a word gives, if there is a word, and if the number is within these limits.
-fn number_if(word: Option<&str>, least: u64, most: u64) -> Option<Option<u64>>
-    ensures told { result ≡ number_if least most (option_map (λ text. text.now) word.entry) }
-    ensures within { IfSome result (λ told. IfSome told (λ n. (least ≤ n) × (n ≤ most))) }
+/// A number that need not be among the words.
+#[derive(Clone, Copy, Debug, PartialEq, Eq)]
+pub enum Choice {
+    /// It isn't: the usual number serves.
+    Usual,
+    /// This number is.
+    Given(u64),
+}
+
+/// The number that a word gives, if there is a word. None where it isn't within these limits.
+fn choice_within(word: Option<&str>, least: u64, most: u64) -> Option<Choice>
+    ensures choice { result ≡ choice_within least most (option_map (λ text. text.now) word.entry) }
+    ensures within { IfSome result (λ choice. IfGiven choice (λ n. (least ≤ n) × (n ≤ most))) }
 {
     match word {
-        None => Some(None),
+        None => Some(Choice::Usual),
         Some(text) => match number_within(text, least, most) {
-            Some(number) => Some(Some(number)),
+            Some(number) => Some(Choice::Given(number)),
             None => None,
         },
     }
 }
 
-/// The number that an option has, if it is given, and if it is within its limits.
-fn number_told(found: &ArgMatches<'_>, option: &NumberOption) -> Option<Option<u64>>
-    ensures told { result ≡ number_if option.now.least option.now.most (first_of option.now.name.now (rows_of (found_of found.now))) }
-    ensures within { IfSome result (λ told. IfSome told (λ n. (option.now.least ≤ n) × (n ≤ option.now.most))) }
+/// The number that an option has, if it is given. None where it isn't within its limits.
+fn choice_of(found: &ArgMatches<'_>, option: &NumberOption) -> Option<Choice>
+    ensures choice { result ≡ choice_among option.now.name.now option.now.least option.now.most (rows_of (found_of found.now)) }
+    ensures within { IfSome result (λ choice. IfGiven choice (λ n. (option.now.least ≤ n) × (n ≤ option.now.most))) }
 {
     let word = found.get_str(option.name);
-    number_if(word, option.least, option.most)
+    choice_within(word, option.least, option.most)
 }
 
 /// How a log is run.
 #[derive(Clone, Copy, Debug, PartialEq, Eq)]
 pub enum Way {
-    /// Place after place, while this many threads read lines ahead, or as many as pay where no number is given.
-    InOrder(Option<u64>),
+    /// Place after place, while this many threads read lines ahead. The usual number is as many as pay.
+    InOrder(Choice),
     /// In batches, by these settings.
     InBatches(Settings),
 }
@@ -197,7 +205,7 @@ fn way_by(settings: Settings, ahead: u64) -> Option<Way>
     ensures within { IfSome result IsWithin }
 {
     if is_alone(&settings) {
-        return Some(Way::InOrder(Some(ahead)));
+        return Some(Way::InOrder(Choice::Given(ahead)));
     }
     if ahead == 0 {
         return Some(Way::InBatches(settings));
@@ -205,55 +213,58 @@ fn way_by(settings: Settings, ahead: u64) -> Option<Way>
     None
 }
 
-/// How many workers there are, or partitions, where this many are given, or the usual share where none are.
-fn share_of(told: Option<u64>, most: u64) -> u64
-    requires told { IfSome told (λ n. (1 ≤ n) × (n ≤ most)) }
+/// Whether a number is given.
+fn is_given(choice: Choice) -> bool
+    ensures { result ≡ is_given choice }
+{
+    match choice {
+        Choice::Usual => false,
+        Choice::Given(_) => true,
+    }
+}
+
+/// How many workers there are, or partitions, by the number that is given, or else the usual share.
+fn share_of(choice: Choice, most: u64) -> u64
+    requires given { IfGiven choice (λ n. (1 ≤ n) × (n ≤ most)) }
     requires usual { USUAL_SHARE ≤ most }
-    ensures value { result ≡ unwrap_or told USUAL_SHARE }
+    ensures value { result ≡ given_or choice USUAL_SHARE }
     ensures within { (1 ≤ result) × (result ≤ most) }
 {
-    match told {
-        Some(number) => number,
-        None => USUAL_SHARE,
+    match choice {
+        Choice::Usual => USUAL_SHARE,
+        Choice::Given(number) => number,
     }
 }
 
-/// How many threads read lines ahead of settings, where this many are given, or none.
-fn ahead_of(told: Option<u64>) -> u64
-    requires { IfSome told (λ n. n ≤ MOST_AHEAD) }
-    ensures value { result ≡ unwrap_or told 0 }
+/// How many threads read lines ahead of settings: as many as are given, or none.
+fn ahead_of(choice: Choice) -> u64
+    requires { IfGiven choice (λ n. n ≤ MOST_AHEAD) }
+    ensures value { result ≡ given_or choice 0 }
     ensures within { result ≤ MOST_AHEAD }
 {
-    match told {
-        Some(number) => number,
-        None => 0,
+    match choice {
+        Choice::Usual => 0,
+        Choice::Given(number) => number,
     }
-}
-
-/// Whether workers or partitions are given.
-fn is_told(workers: Option<u64>, partitions: Option<u64>) -> bool
-    ensures { result ≡ (is_some workers || is_some partitions) }
-{
-    workers.is_some() || partitions.is_some()
 }
 
 /// The way by the numbers that are given.
 fn way_told(
-    workers: Option<u64>,
-    partitions: Option<u64>,
+    workers: Choice,
+    partitions: Choice,
     batch: u64,
     keep: u64,
-    ahead: Option<u64>,
+    ahead: Choice,
 ) -> Option<Way>
-    requires workers { IfSome workers (λ n. (1 ≤ n) × (n ≤ MOST_WORKERS)) }
-    requires partitions { IfSome partitions (λ n. (1 ≤ n) × (n ≤ MOST_PARTITIONS)) }
+    requires workers { IfGiven workers (λ n. (1 ≤ n) × (n ≤ MOST_WORKERS)) }
+    requires partitions { IfGiven partitions (λ n. (1 ≤ n) × (n ≤ MOST_PARTITIONS)) }
     requires batch { (1 ≤ batch) × (batch ≤ MOST_BATCH_STATEMENTS) }
     requires keep { keep ≤ MOST_KEPT_BATCHES }
-    requires ahead { IfSome ahead (λ n. n ≤ MOST_AHEAD) }
+    requires ahead { IfGiven ahead (λ n. n ≤ MOST_AHEAD) }
     ensures way { result ≡ way_told workers partitions batch keep ahead }
     ensures within { IfSome result IsWithin }
 {
-    if !is_told(workers, partitions) {
+    if !is_given(workers) && !is_given(partitions) {
         return Some(Way::InOrder(ahead));
     }
     let settings = Settings {
@@ -270,11 +281,11 @@ pub(crate) fn way_of(found: &ArgMatches<'_>) -> Option<Way>
     ensures told { result ≡ way_among (rows_of (found_of found.now)) }
     ensures within { IfSome result IsWithin }
 {
-    let workers = number_told(found, &WORKERS)?;
-    let partitions = number_told(found, &PARTITIONS)?;
+    let workers = choice_of(found, &WORKERS)?;
+    let partitions = choice_of(found, &PARTITIONS)?;
     let batch = number_of(found, &BATCH)?;
     let keep = number_of(found, &KEEP)?;
-    let ahead = number_told(found, &AHEAD)?;
+    let ahead = choice_of(found, &AHEAD)?;
     way_told(workers, partitions, batch, keep, ahead)
 }
 
@@ -322,10 +333,44 @@ pub(crate) fn question_of(found: &ArgMatches<'_>) -> Option<Question>
     }
 }
 
-/// The place before which the words of `grants` ask for the grants, if they name one, and if it is within the limits.
-pub(crate) fn limit_of(found: &ArgMatches<'_>) -> Option<Option<Place>>
+/// Up to where the grants of a log are asked for.
+#[derive(Clone, Copy, Debug, PartialEq, Eq)]
+pub enum Limit {
+    /// The end of the log.
+    End,
+    /// This place, without it.
+    Before(Place),
+}
+
+impl Limit {
+    /// The place, if one is named.
+    pub(crate) fn place(self) -> Option<Place>
+        ensures { result ≡ place_named self }
+    {
+        match self {
+            Limit::End => None,
+            Limit::Before(place) => Some(place),
+        }
+    }
+}
+
+/// The limit by the place that is given, or else the end of the log.
+fn limit_by(place: Choice) -> Limit
+    ensures { result ≡ limit_by place }
+{
+    match place {
+        Choice::Usual => Limit::End,
+        Choice::Given(place) => Limit::Before(place),
+    }
+}
+
+/// The limit that the words of `grants` name, if their place is within the limits.
+pub(crate) fn limit_of(found: &ArgMatches<'_>) -> Option<Limit>
     ensures { result ≡ limit_among (rows_of (found_of found.now)) }
 {
     let word = found.get_str("PLACE");
-    number_if(word, 0, MOST_PLACE)
+    match choice_within(word, 0, MOST_PLACE) {
+        Some(place) => Some(limit_by(place)),
+        None => None,
+    }
 }

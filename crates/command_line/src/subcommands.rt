@@ -1,8 +1,8 @@
 //! The subcommands of the program, as they are described to `clap`.
 
-ghost use Rattle.std.specs.Prelude.{◌≡◌, IfOk, codes};
+ghost use Rattle.std.specs.Prelude.{◌≡◌, IfOk, codes, true};
 ghost use Rattle.clap.specs.Words.{app_of, new_rule, with_rule, with_subcommand};
-ghost use Rattle.command_line.specs.Shapes.{bohm_app, explain_shape, flag_rule, grants_shape, place_rule, required_rule, run_shape, serial_shape, with_progress};
+ghost use Rattle.command_line.specs.Shapes.{bohm_app, explain_app, flag_rule, grants_app, over_file, place_rule, required_rule, run_app, with_progress};
 
 use crate::options::{MOST_PLACE, with_options};
 use clap::builder::ValueParser;
@@ -43,9 +43,9 @@ fn with_progress<'a>(alloc: Global, command: Command<'a>) -> Result<Command<'a>,
     )
 }
 
-/// Adds the description of `run` to the program's.
-fn with_run<'a>(alloc: Global, program: Command<'a>) -> Result<Command<'a>, AllocError>
-    ensures { IfOk result (λ c. app_of c ≡ with_subcommand (app_of program.entry) run_shape) }
+/// The description of `run`, but for the flags for progress.
+fn describe_run<'a>(alloc: Global) -> Result<Command<'a>, AllocError>
+    ensures { IfOk result (λ c. app_of c ≡ run_app) }
 {
     let file = Arg::new(alloc, "FILE").help(
         "The log. Without it, or if it is -, standard input is read",
@@ -53,19 +53,17 @@ fn with_run<'a>(alloc: Global, program: Command<'a>) -> Result<Command<'a>, Allo
     let run = Command::new(alloc, "run")
         .about("Executes a log, and writes its report to standard output")
         .arg(file)?;
-    let run = with_options(alloc, run)?;
-    let run = with_progress(alloc, run)?;
-    program.subcommand(run)
+    with_options(alloc, run)
 }
 
-/// Adds the word FILE, which has to be there, to a command's description.
-fn with_file<'a>(alloc: Global, command: Command<'a>) -> Result<Command<'a>, AllocError>
-    ensures { IfOk result (λ c. app_of c ≡ with_rule (app_of command.entry) (required_rule (codes "FILE"))) }
+/// The description of a subcommand by its name and what it does: it has the word FILE, which has to be there.
+fn over_file<'a>(alloc: Global, name: &'a str, about: &'a str) -> Result<Command<'a>, AllocError>
+    ensures { IfOk result (λ c. app_of c ≡ over_file name.entry.now) }
 {
     let file = Arg::new(alloc, "FILE")
         .required(true)
         .help("The log. If it is -, standard input is read");
-    command.arg(file)
+    Command::new(alloc, name).about(about).arg(file)
 }
 
 /// Adds the word PLACE, which has to be there, to a command's description.
@@ -101,43 +99,42 @@ fn with_check<'a>(alloc: Global, command: Command<'a>) -> Result<Command<'a>, Al
     )
 }
 
-/// Adds the description of `serial` to the program's.
-fn with_serial<'a>(alloc: Global, program: Command<'a>) -> Result<Command<'a>, AllocError>
-    ensures { IfOk result (λ c. app_of c ≡ with_subcommand (app_of program.entry) serial_shape) }
+/// The description of `explain`, but for the flags for progress.
+fn describe_explain<'a>(alloc: Global) -> Result<Command<'a>, AllocError>
+    ensures { IfOk result (λ c. app_of c ≡ explain_app) }
 {
-    let serial = Command::new(alloc, "serial").about(
-        "Executes a log by the slow serial run, and writes its report to standard output",
-    );
-    let serial = with_file(alloc, serial)?;
-    let serial = with_progress(alloc, serial)?;
-    program.subcommand(serial)
-}
-
-/// Adds the description of `explain` to the program's.
-fn with_explain<'a>(alloc: Global, program: Command<'a>) -> Result<Command<'a>, AllocError>
-    ensures { IfOk result (λ c. app_of c ≡ with_subcommand (app_of program.entry) explain_shape) }
-{
-    let explain = Command::new(alloc, "explain").about(
+    let explain = over_file(
+        alloc,
+        "explain",
         "Explains why the statement of a place was admitted or denied",
-    );
-    let explain = with_file(alloc, explain)?;
+    )?;
     let explain = with_place(alloc, explain)?;
-    let explain = with_check(alloc, explain)?;
-    let explain = with_progress(alloc, explain)?;
-    program.subcommand(explain)
+    with_check(alloc, explain)
 }
 
-/// Adds the description of `grants` to the program's.
-fn with_grants<'a>(alloc: Global, program: Command<'a>) -> Result<Command<'a>, AllocError>
-    ensures { IfOk result (λ c. app_of c ≡ with_subcommand (app_of program.entry) grants_shape) }
+/// The description of `grants`, but for the flags for progress.
+fn describe_grants<'a>(alloc: Global) -> Result<Command<'a>, AllocError>
+    ensures { IfOk result (λ c. app_of c ≡ grants_app) }
 {
-    let grants = Command::new(alloc, "grants").about(
+    let grants = over_file(
+        alloc,
+        "grants",
         "Writes the grants in force before a place as a Graphviz digraph",
-    );
-    let grants = with_file(alloc, grants)?;
-    let grants = with_limit(alloc, grants)?;
-    let grants = with_progress(alloc, grants)?;
-    program.subcommand(grants)
+    )?;
+    with_limit(alloc, grants)
+}
+
+/// Adds a subcommand, with the flags for progress, to the program's description.
+fn with_subcommand<'a>(
+    alloc: Global,
+    program: Command<'a>,
+    subcommand: Command<'a>,
+) -> Result<Command<'a>, AllocError>
+    requires { (with_progress (app_of subcommand)).top.is_plain ≡ true }
+    ensures { IfOk result (λ c. app_of c ≡ with_subcommand (app_of program.entry) (with_progress (app_of subcommand.entry)).top) }
+{
+    let subcommand = with_progress(alloc, subcommand)?;
+    program.subcommand(subcommand)
 }
 
 /// The program's own description of its words.
@@ -147,9 +144,17 @@ pub(crate) fn program<'a>(alloc: Global) -> Result<Command<'a>, AllocError>
     let bohm = Command::new(alloc, "bohm")
         .version("0.1.0")
         .about("A deterministic transaction executor");
-    let bohm = with_run(alloc, bohm)?;
-    let bohm = with_serial(alloc, bohm)?;
-    let bohm = with_explain(alloc, bohm)?;
-    let bohm = with_grants(alloc, bohm)?;
+    let run = describe_run(alloc)?;
+    let bohm = with_subcommand(alloc, bohm, run)?;
+    let serial = over_file(
+        alloc,
+        "serial",
+        "Executes a log by the slow serial run, and writes its report to standard output",
+    )?;
+    let bohm = with_subcommand(alloc, bohm, serial)?;
+    let explain = describe_explain(alloc)?;
+    let bohm = with_subcommand(alloc, bohm, explain)?;
+    let grants = describe_grants(alloc)?;
+    let bohm = with_subcommand(alloc, bohm, grants)?;
     Ok(bohm.subcommand_required(true))
 }
