@@ -3,7 +3,7 @@
 use crate::generator::Generator;
 use crate::logs::Log;
 use crate::printing::put_part;
-use crate::run::{Run, right_runs};
+use crate::run::{Run, Runs};
 use std::alloc::{AllocError, Global};
 use std::rt::Files;
 use std::sync::Wait;
@@ -43,9 +43,7 @@ const HEADING: &[u8] = b"BOHM 2\n";
 /// The next lines of each log: the tables' owners create them.
 const FIRST_LINES: &[u8] = b"ann CREATE s 1\nbob CREATE t 1\n";
 
-const USERS: [&str; 5] = ["ann", "bob", "cid", "dan", "eve"];
-
-/// The grantees of lists.
+/// The grantees of lists. The first five are users too.
 const GRANTEES: [&str; 9] = [
     "ann", "bob", "cid", "dan", "eve", "fay", "gus", "hal", "PUBLIC",
 ];
@@ -93,25 +91,8 @@ fn put_kinds(log: &mut Vec<u8>, generator: &mut Generator) -> Result<(), AllocEr
     Ok(())
 }
 
-/// Appends what is drawn in place of a byte of a line: of `@` a user, of `&` one to eight grantees, of `*` one to nine of them and PUBLIC,
-/// of `^` one to four kinds.
-fn put_drawn_byte(
-    log: &mut Vec<u8>,
-    generator: &mut Generator,
-    byte: u8,
-) -> Result<(), AllocError> {
-    match byte {
-        b'@' => log.extend_from_slice(USERS[generator.below(5) as usize].as_bytes())?,
-        b'&' => put_grantees(log, generator, 8)?,
-        b'*' => put_grantees(log, generator, 9)?,
-        b'^' => put_kinds(log, generator)?,
-        other => log.push(other)?,
-    }
-    Ok(())
-}
-
 /// Appends a line that is drawn from these. It has in place of all `#` a row, of all `%` a table, and of all `!` its owner; and in place of
-/// each of some other bytes what is drawn for it.
+/// each `@` a user, of each `&` one to eight grantees, of each `*` one to nine of them and PUBLIC, and of each `^` one to four kinds.
 fn put_drawn_line(
     log: &mut Vec<u8>,
     generator: &mut Generator,
@@ -130,7 +111,11 @@ fn put_drawn_line(
             b'#' => log.push(b"012"[row])?,
             b'%' => log.push(table)?,
             b'!' => log.extend_from_slice(owner.as_bytes())?,
-            other => put_drawn_byte(log, generator, other)?,
+            b'@' => log.extend_from_slice(GRANTEES[generator.below(5) as usize].as_bytes())?,
+            b'&' => put_grantees(log, generator, 8)?,
+            b'*' => put_grantees(log, generator, 9)?,
+            b'^' => put_kinds(log, generator)?,
+            other => log.push(other)?,
         }
     }
     Ok(())
@@ -202,25 +187,20 @@ fn log_of(
     Ok(log)
 }
 
-/// Ends a log with these lines, appends its report by the run in order to those before it, and returns by how many of the runs it has that.
-fn compare_log<R: Threads + Wait + Sync>(
-    rt: &R,
-    alloc: Global,
-    case: &Drawn<'_>,
-    log: &mut Vec<u8>,
-    last: &[u8],
-    reports: &mut Vec<u8>,
-) -> Result<usize, TrialFault> {
-    log.extend_from_slice(last)?;
-    let wanted = Run::in_order().text(rt, alloc, log.as_slice())?;
-    reports.extend_from_slice(wanted.as_slice())?;
-    right_runs(
-        rt,
-        alloc,
-        log.as_slice(),
-        case.runs.as_slice(),
-        wanted.as_slice(),
-    )
+impl<R: Threads + Wait + Sync> Runs<'_, R> {
+    /// Ends a log with these lines, appends its report by the run in order to those before it, and returns by how many of the runs it has
+    /// that.
+    fn compare(
+        &self,
+        log: &mut Vec<u8>,
+        last: &[u8],
+        reports: &mut Vec<u8>,
+    ) -> Result<usize, TrialFault> {
+        log.extend_from_slice(last)?;
+        let wanted = self.text(Run::in_order(), log.as_slice())?;
+        reports.extend_from_slice(wanted.as_slice())?;
+        self.right(log.as_slice(), wanted.as_slice())
+    }
 }
 
 /// How often the text has this word, after a space.
@@ -235,6 +215,8 @@ pub fn drawn_reports<R: Files + Threads + Wait + Sync>(
     alloc: Global,
     case: &Drawn<'_>,
 ) -> Result<String, TrialFault> {
+    let list = case.runs.as_slice();
+    let runs = Runs { rt, alloc, list };
     let last = case.last.bytes(rt, alloc)?;
     let text = read_file(rt, alloc, case.path)?;
     let text = text
@@ -250,17 +232,14 @@ pub fn drawn_reports<R: Files + Threads + Wait + Sync>(
     let mut same: usize = 0;
     for _ in 0..case.logs {
         let mut log = log_of(alloc, &mut generator, case, heading, lines.as_slice())?;
-        let found = compare_log(rt, alloc, case, &mut log, last.as_slice(), &mut reports)?;
-        same = same.saturating_add(found);
+        same = same.saturating_add(runs.compare(&mut log, last.as_slice(), &mut reports)?);
     }
     let (logs, runs) = (case.logs, case.runs.len());
     let mut outcome = format!(in alloc; "{logs} logs by {runs} runs, {same} same reports")?;
     for word in ENDINGS.split(' ') {
         let found = count_word(reports.as_slice(), word.as_bytes());
-        put_part(
-            &mut outcome,
-            format!(in alloc; "{found} of {word}")?.as_str(),
-        )?;
+        let part = format!(in alloc; "{found} of {word}")?;
+        put_part(&mut outcome, part.as_str())?;
     }
     Ok(outcome)
 }

@@ -1,6 +1,6 @@
 //! Examples of a file: lines of a log, each after `> `, and those of its report, each after `< `; an empty line is after each example.
 
-use crate::run::{Run, right_runs};
+use crate::run::{Run, Runs, Way};
 use std::alloc::Global;
 use std::rt::Files;
 use std::sync::Wait;
@@ -14,6 +14,8 @@ pub fn shown_examples<R: Files + Threads + Wait + Sync>(
     path: &str,
 ) -> Result<String, TrialFault> {
     let text = read_file(rt, alloc, path)?;
+    let list = &[Run::in_order(), Run::fixed(Way::Slow)];
+    let runs = Runs { rt, alloc, list };
     let (mut log, mut report) = (Vec::new(alloc), Vec::new(alloc));
     let (mut all, mut right): (u32, u32) = (0, 0);
     for line in text.as_slice().split_inclusive(|byte| *byte == b'\n') {
@@ -22,8 +24,7 @@ pub fn shown_examples<R: Files + Threads + Wait + Sync>(
         } else if let Some(line) = line.strip_prefix(b"< ".as_slice()) {
             report.extend_from_slice(line)?;
         } else if line == b"\n".as_slice() {
-            let runs = [Run::in_order(), Run::Slow];
-            let found = right_runs(rt, alloc, log.as_slice(), &runs, report.as_slice())?;
+            let found = runs.right(log.as_slice(), report.as_slice())?;
             all = all.saturating_add(1);
             right = right.saturating_add(u32::from(found == 2));
             log.clear();

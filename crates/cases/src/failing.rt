@@ -1,7 +1,6 @@
 //! Readers that fail at any read, and writers that fail at any write, take no byte, or fail at their flush.
 
-use crate::parsing::Runs;
-use crate::run::Run;
+use crate::run::{Run, Runs};
 use audit_text::AuditFault;
 use engine::EngineFault;
 use line_io::{Counted, MemoryReader, MemoryWriter};
@@ -26,16 +25,12 @@ pub enum Failing {
 
 /// Whether a run's reader failed.
 fn is_read(fault: TrialFault) -> bool {
-    fault == TrialFault::Text(bohm_base::EngineFault::Read)
-        || fault == TrialFault::Run(EngineFault::Read)
-        || fault == TrialFault::Question(AuditFault::Read)
+    fault == TrialFault::Run(EngineFault::Read) || fault == TrialFault::Question(AuditFault::Read)
 }
 
 /// Whether a run's writer failed, or took no byte.
 fn is_write(fault: TrialFault) -> bool {
-    fault == TrialFault::Text(bohm_base::EngineFault::Write)
-        || fault == TrialFault::Run(EngineFault::Write)
-        || fault == TrialFault::Question(AuditFault::Write)
+    fault == TrialFault::Run(EngineFault::Write) || fault == TrialFault::Question(AuditFault::Write)
 }
 
 /// How runs with a failing reader or writer ended.
@@ -115,46 +110,38 @@ fn writer_of(alloc: Global, failing: Failing, number: u64) -> MemoryWriter {
     }
 }
 
-/// Counts how a run ends where the reader fails at each of its reads, or the writer at each of its writes, and then at none; or at its end.
-fn count_run<R: Threads + Wait + Sync>(
-    rt: &R,
-    alloc: Global,
-    failing: Failing,
-    log: &[u8],
-    run: &Run,
-    counts: &mut Counts,
-) -> Result<(), TrialFault> {
-    let wanted = run.text(rt, alloc, log)?;
-    let tries = match failing {
-        Failing::Reads => (log.len() as u64).saturating_add(TRIES),
-        Failing::Writes => (wanted.len() as u64).saturating_add(TRIES),
-        Failing::Ends => 3,
-    };
-    for number in 0..tries {
-        let mut reader = Counted::new(reader_of(failing, log, number));
-        let mut writer = Counted::new(writer_of(alloc, failing, number));
-        let ended = run.execute(rt, alloc, &mut reader, &mut writer);
-        let written = writer.inner.taken.as_slice();
-        counts.add(
-            ended,
-            (reader.errors, writer.errors),
-            written,
-            wanted.as_slice(),
-        );
+impl<R: Threads + Wait + Sync> Runs<'_, R> {
+    /// Counts how a run ends where the reader fails at each of its reads, or the writer at each of its writes, and then at none; or at its
+    /// end.
+    fn count(
+        &self,
+        run: Run,
+        log: &[u8],
+        failing: Failing,
+        counts: &mut Counts,
+    ) -> Result<(), TrialFault> {
+        let wanted = self.text(run, log)?;
+        let tries = match failing {
+            Failing::Reads => (log.len() as u64).saturating_add(TRIES),
+            Failing::Writes => (wanted.len() as u64).saturating_add(TRIES),
+            Failing::Ends => 3,
+        };
+        for number in 0..tries {
+            let mut reader = Counted::new(reader_of(failing, log, number));
+            let mut writer = Counted::new(writer_of(self.alloc, failing, number));
+            let ended = run.execute(self.rt, self.alloc, &mut reader, &mut writer);
+            let (written, failures) = (&writer.inner.taken, (reader.errors, writer.errors));
+            counts.add(ended, failures, written.as_slice(), wanted.as_slice());
+        }
+        Ok(())
     }
-    Ok(())
-}
 
-/// How the runs of a log end where this fails.
-pub fn failing_runs<R: Threads + Wait + Sync>(
-    rt: &R,
-    alloc: Global,
-    failing: Failing,
-    case: &Runs<'_>,
-) -> Result<String, TrialFault> {
-    let mut counts = Counts::default();
-    for run in case.runs.as_slice() {
-        count_run(rt, alloc, failing, case.bytes.as_slice(), run, &mut counts)?;
+    /// How the runs of a log end where this fails.
+    pub fn failing(&self, log: &[u8], failing: Failing) -> Result<String, TrialFault> {
+        let mut counts = Counts::default();
+        for run in self.list {
+            self.count(*run, log, failing, &mut counts)?;
+        }
+        Ok(counts.outcome(self.alloc)?)
     }
-    Ok(counts.outcome(alloc)?)
 }

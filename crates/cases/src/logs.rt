@@ -9,74 +9,84 @@ use trials_base::{TrialFault, read_file};
 pub enum Log<'a> {
     /// `NAME`: the file NAME.log.
     Worked(&'a str),
-    /// `letters:COUNT`: a line of this many letters, and then a good one.
-    Letters(u32),
-    /// `unended:COUNT`: the creation of a table, and then a line of this many letters without its line feed.
-    Unended(u32),
-    /// `users:COUNT`: this many lines of users who weren't named before, and then one of the user who was named first.
-    Users(u32),
-    /// `tables:COUNT`: this many creations of tables, and then a line that reads the first.
-    Tables(u32),
-    /// `rows:LINES:ROWS`: this many lines that insert the rows first, and then change them one after another.
-    Rows(u32, u32),
+    /// `SHAPE:COUNT`, or `rows:COUNT:ROWS`: this many parts of a shape. `ROWS` is 0 if it isn't given.
+    Made(Shape, u32, u32),
 }
 
-/// This many letters between two texts.
-fn log_of_letters(
-    alloc: Global,
-    before: &[u8],
-    count: u32,
-    after: &[u8],
-) -> Result<Vec<u8>, AllocError> {
-    let mut log = Vec::from_slice(alloc, before)?;
-    for _ in 0..count {
-        log.push(b'a')?;
-    }
-    log.extend_from_slice(after)?;
-    Ok(log)
+/// What a log is made of. In each part `#` is its number, and `%` that of its row.
+#[derive(Clone, Copy, Debug, PartialEq, Eq)]
+pub struct Shape {
+    before: &'static str,
+    /// The first part on each row.
+    first: &'static str,
+    /// Any other part.
+    part: &'static str,
+    after: &'static str,
 }
 
-/// Lines of this many users after the creation of a table by `owner`, and then one of the owner.
-fn log_of_users(alloc: Global, count: u32) -> Result<Vec<u8>, AllocError> {
-    let mut log = Vec::from_slice(alloc, b"owner CREATE t 1\n")?;
-    for number in 0..count {
-        let line = format!(in alloc; "u{number} RUN t:1:R\n")?;
-        log.extend_from_slice(line.as_bytes())?;
-    }
-    log.extend_from_slice(b"owner RUN t:1:R\n")?;
-    Ok(log)
-}
-
-/// This many creations of tables, and then a line that reads the first.
-fn log_of_tables(alloc: Global, count: u32) -> Result<Vec<u8>, AllocError> {
-    let mut log = Vec::new(alloc);
-    for number in 0..count {
-        let line = format!(in alloc; "owner CREATE t{number} 1\n")?;
-        log.extend_from_slice(line.as_bytes())?;
-    }
-    log.extend_from_slice(b"owner RUN t0:1:R\n")?;
-    Ok(log)
-}
-
-/// Appends the line of this number of a log over this many rows.
-fn put_row(alloc: Global, log: &mut Vec<u8>, number: u32, rows: u32) -> Result<(), AllocError> {
-    let row = number % rows.max(1);
-    let line = if number < rows {
-        format!(in alloc; "alice RUN t:{row}:I | CONST 0 {number} | INSERT t {row} 0\n")?
-    } else {
-        format!(in alloc;
-            "alice RUN t:{row}:RU | LOAD 0 t {row} 0 | CONST 1 {number} | ADD 0 0 1 | STORE t {row} 0 0 | OUT 0\n"
-        )?
+/// The shape of this name.
+pub fn shape_of(name: &str) -> Result<Shape, TrialFault> {
+    let (before, first, part, after) = match name {
+        // A line of letters, and then a good one.
+        "letters" => ("", "", "a", "\nalice CREATE t 1\n"),
+        // The creation of a table, and then a line of letters without its line feed.
+        "unended" => ("alice CREATE t 1\n", "", "a", ""),
+        // Lines of users who weren't named before, and then one of the user who was named first.
+        "users" => (
+            "owner CREATE t 1\n",
+            "",
+            "u# RUN t:1:R\n",
+            "owner RUN t:1:R\n",
+        ),
+        // Creations of tables, and then a line that reads the first.
+        "tables" => ("", "", "owner CREATE t# 1\n", "owner RUN t0:1:R\n"),
+        // Lines that insert the rows first, and then change them one after another.
+        "rows" => (
+            "alice CREATE t 1\n",
+            "alice RUN t:%:I | CONST 0 # | INSERT t % 0\n",
+            "alice RUN t:%:RU | LOAD 0 t % 0 | CONST 1 # | ADD 0 0 1 | STORE t % 0 0 | OUT 0\n",
+            "",
+        ),
+        _ => return Err(TrialFault::NoSuchLog),
     };
-    log.extend_from_slice(line.as_bytes())
+    Ok(Shape {
+        before,
+        first,
+        part,
+        after,
+    })
 }
 
-/// This many lines that insert rows first, and then change them one after another.
-fn log_of_rows(alloc: Global, lines: u32, rows: u32) -> Result<Vec<u8>, AllocError> {
-    let mut log = Vec::from_slice(alloc, b"alice CREATE t 1\n")?;
-    for number in 0..lines {
-        put_row(alloc, &mut log, number, rows)?;
+/// Appends the part of a log of this number.
+fn put_numbered(
+    alloc: Global,
+    log: &mut Vec<u8>,
+    part: &str,
+    number: u32,
+    row: u32,
+) -> Result<(), AllocError> {
+    for byte in part.as_bytes() {
+        match *byte {
+            b'#' => log.extend_from_slice(format!(in alloc; "{number}")?.as_bytes())?,
+            b'%' => log.extend_from_slice(format!(in alloc; "{row}")?.as_bytes())?,
+            other => log.push(other)?,
+        }
     }
+    Ok(())
+}
+
+/// This many parts of a shape, on this many rows.
+fn made_log(alloc: Global, shape: Shape, count: u32, rows: u32) -> Result<Vec<u8>, AllocError> {
+    let mut log = Vec::from_slice(alloc, shape.before.as_bytes())?;
+    for number in 0..count {
+        let part = if number < rows {
+            shape.first
+        } else {
+            shape.part
+        };
+        put_numbered(alloc, &mut log, part, number, number % rows.max(1))?;
+    }
+    log.extend_from_slice(shape.after.as_bytes())?;
     Ok(log)
 }
 
@@ -88,11 +98,7 @@ impl Log<'_> {
                 let path = format!(in alloc; "{name}.log")?;
                 read_file(rt, alloc, path.as_str())
             }
-            Log::Letters(count) => Ok(log_of_letters(alloc, b"", count, b"\nalice CREATE t 1\n")?),
-            Log::Unended(count) => Ok(log_of_letters(alloc, b"alice CREATE t 1\n", count, b"")?),
-            Log::Users(count) => Ok(log_of_users(alloc, count)?),
-            Log::Tables(count) => Ok(log_of_tables(alloc, count)?),
-            Log::Rows(lines, rows) => Ok(log_of_rows(alloc, lines, rows)?),
+            Log::Made(shape, count, rows) => Ok(made_log(alloc, shape, count, rows)?),
         }
     }
 

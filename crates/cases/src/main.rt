@@ -4,7 +4,6 @@
 //! An empty line is none, and one that begins with `#` is a comment. What is printed is compared with `stdout`.
 #![tactic(auto)]
 
-mod changed;
 mod command;
 mod drawn;
 mod examples;

@@ -1,21 +1,13 @@
 //! Words of a case, read as logs and runs.
 
-use crate::logs::Log;
-use crate::run::Run;
+use crate::logs::{Log, shape_of};
+use crate::run::{Run, Way};
 use audit_text::Question;
 use batched_text::{ReadingAhead, Settings};
 use model_base::Place;
 use std::alloc::Global;
 use std::rt::Files;
 use trials_base::{TrialFault, read_file, text_of};
-
-/// A log, its bytes, and the runs of it.
-#[derive(Drop)]
-pub struct Runs<'a> {
-    pub log: Log<'a>,
-    pub bytes: Vec<u8>,
-    pub runs: Vec<Run>,
-}
 
 /// A number.
 pub fn parse_number(word: &str) -> Result<u64, TrialFault> {
@@ -77,36 +69,36 @@ fn parse_ahead(words: &[&str]) -> Result<ReadingAhead, TrialFault> {
     })
 }
 
-/// A run under the seed of a source that repeats a byte: in order, by the definitions, or in batches by these settings.
-fn parse_seeded(words: &[&str]) -> Result<Run, TrialFault> {
-    let [byte, name, words @ ..] = words else {
-        return Err(TrialFault::Words);
-    };
-    let byte = byte.parse::<u8>().map_err(|_| TrialFault::NotANumber)?;
-    match *name {
-        "plain" => Ok(Run::SeededInOrder(byte)),
-        "slow" => Ok(Run::SeededSlow(byte)),
-        _ => Ok(Run::SeededBatches(byte, parse_settings(words)?)),
-    }
-}
-
-/// A run: its name, and its numbers after colons.
-fn parse_run(alloc: Global, word: &str) -> Result<Run, TrialFault> {
-    let parts = word.split(':').collect::<Vec<&str>>(alloc)?;
-    let [name, words @ ..] = parts.as_slice() else {
+/// What makes the text of a run: its name, and its numbers.
+fn parse_way(words: &[&str]) -> Result<Way, TrialFault> {
+    let [name, words @ ..] = words else {
         return Err(TrialFault::NoSuchRun);
     };
     match *name {
-        "plain" if words.is_empty() => Ok(Run::in_order()),
-        "ahead" => Ok(Run::InOrder(parse_ahead(words)?)),
-        "slow" if words.is_empty() => Ok(Run::Slow),
-        "batches" => Ok(Run::Batches(parse_settings(words)?)),
-        "kept" => Ok(Run::Kept(parse_settings(words)?)),
-        "seeded" => parse_seeded(words),
-        "explain" => Ok(Run::Explain(parse_question(words)?)),
-        "picture" => Ok(Run::Picture(parse_limit(words)?)),
+        "plain" if words.is_empty() => Ok(Way::InOrder(ReadingAhead::by(0))),
+        "ahead" => Ok(Way::InOrder(parse_ahead(words)?)),
+        "slow" if words.is_empty() => Ok(Way::Slow),
+        "batches" => Ok(Way::Batches(parse_settings(words)?)),
+        "kept" => Ok(Way::Kept(parse_settings(words)?)),
+        "explain" => Ok(Way::Explain(parse_question(words)?)),
+        "picture" => Ok(Way::Picture(parse_limit(words)?)),
         _ => Err(TrialFault::NoSuchRun),
     }
+}
+
+/// A run: a way, its words parted by colons, after `seeded:BYTE:` if its seed is drawn from a source that repeats this byte.
+fn parse_run(alloc: Global, word: &str) -> Result<Run, TrialFault> {
+    let (byte, way) = match word.strip_prefix("seeded:") {
+        Some(seeded) => {
+            let (byte, way) = seeded.split_once(':').ok_or(TrialFault::Words)?;
+            let byte = byte.parse::<u8>().map_err(|_| TrialFault::NotANumber)?;
+            (Some(byte), way)
+        }
+        None => (None, word),
+    };
+    let words = way.split(':').collect::<Vec<&str>>(alloc)?;
+    let way = parse_way(words.as_slice())?;
+    Ok(Run { byte, way })
 }
 
 /// Appends the runs that a word names: a run, or those after this word in a line of `named`.
@@ -151,33 +143,13 @@ pub fn parse_log(word: &str) -> Result<Log<'_>, TrialFault> {
     if word.is_empty() {
         return Err(TrialFault::NoSuchLog);
     }
-    let Some((name, number)) = word.split_once(':') else {
+    let Some((name, numbers)) = word.split_once(':') else {
         return Ok(Log::Worked(word));
     };
-    match name {
-        "letters" => Ok(Log::Letters(parse_count(number)?)),
-        "unended" => Ok(Log::Unended(parse_count(number)?)),
-        "users" => Ok(Log::Users(parse_count(number)?)),
-        "tables" => Ok(Log::Tables(parse_count(number)?)),
-        "rows" => {
-            let (lines, rows) = number.split_once(':').ok_or(TrialFault::Words)?;
-            Ok(Log::Rows(parse_count(lines)?, parse_count(rows)?))
-        }
-        _ => Err(TrialFault::NoSuchLog),
-    }
-}
-
-/// A log and its runs.
-pub fn parse_runs<'a, R: Files>(
-    rt: &R,
-    alloc: Global,
-    words: &[&'a str],
-) -> Result<Runs<'a>, TrialFault> {
-    let [log, runs @ ..] = words else {
-        return Err(TrialFault::Words);
+    let shape = shape_of(name)?;
+    let (count, rows) = match name {
+        "rows" => numbers.split_once(':').ok_or(TrialFault::Words)?,
+        _ => (numbers, "0"),
     };
-    let log = parse_log(log)?;
-    let runs = parse_run_list(rt, alloc, runs)?;
-    let bytes = log.bytes(rt, alloc)?;
-    Ok(Runs { log, bytes, runs })
+    Ok(Log::Made(shape, parse_count(count)?, parse_count(rows)?))
 }

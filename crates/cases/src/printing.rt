@@ -1,10 +1,9 @@
 //! The texts that runs write, and how runs end.
 
-use crate::parsing::Runs;
-use crate::run::Run;
-use crate::tail::{Bits, tailed_run};
+use crate::run::{Run, Runs};
+use crate::tail::Bits;
 use line_io::Counted;
-use std::alloc::{AllocError, Global};
+use std::alloc::AllocError;
 use std::sync::Wait;
 use std::thread::Threads;
 use trials_base::{TrialFault, text_of};
@@ -28,52 +27,38 @@ pub fn put_part(outcome: &mut String, part: &str) -> Result<(), AllocError> {
     outcome.push_str(part)
 }
 
-/// The text that a run writes of a log, without its last line feed, after a line of how long it is.
-fn printed_text<R: Threads + Wait + Sync>(
-    rt: &R,
-    alloc: Global,
-    log: &[u8],
-    run: &Run,
-) -> Result<String, TrialFault> {
-    let text = run.text(rt, alloc, log)?;
-    let (bytes, text) = (text.len(), text_of(text.as_slice())?);
-    let text = text.strip_suffix("\n").unwrap_or(text);
-    Ok(format!(in alloc; "{bytes} bytes\n{text}")?)
-}
-
-/// How a run of a log ends, and how much it reads and writes.
-fn ended_run<R: Threads + Wait + Sync>(
-    rt: &R,
-    alloc: Global,
-    log: &[u8],
-    run: &Run,
-) -> Result<String, TrialFault> {
-    let mut log = Counted::new(log);
-    let mut text = Counted::new(Vec::new(alloc));
-    let ended = match run.execute(rt, alloc, &mut log, &mut text) {
-        Ok(()) => String::from_str(alloc, "whole")?,
-        Err(fault) => format!(in alloc; "{fault}")?,
-    };
-    let (read, written) = (log.given, text.inner.len());
-    Ok(format!(in alloc; "{ended}, {read} bytes read, {written} written")?)
-}
-
-/// What is said of each run of a log.
-pub fn told_runs<R: Threads + Wait + Sync>(
-    rt: &R,
-    alloc: Global,
-    telling: Telling,
-    case: &Runs<'_>,
-) -> Result<String, TrialFault> {
-    let log = case.bytes.as_slice();
-    let mut outcome = String::new(alloc);
-    for run in case.runs.as_slice() {
-        let part = match telling {
-            Telling::Text => printed_text(rt, alloc, log, run)?,
-            Telling::End => ended_run(rt, alloc, log, run)?,
-            Telling::Tail(bits) => tailed_run(rt, alloc, log, bits, run)?,
-        };
-        put_part(&mut outcome, part.as_str())?;
+impl<R: Threads + Wait + Sync> Runs<'_, R> {
+    /// The text that a run writes of a log, without its last line feed, after a line of how long it is.
+    fn printed(&self, run: Run, log: &[u8]) -> Result<String, TrialFault> {
+        let text = self.text(run, log)?;
+        let (bytes, text) = (text.len(), text_of(text.as_slice())?);
+        let text = text.strip_suffix("\n").unwrap_or(text);
+        Ok(format!(in self.alloc; "{bytes} bytes\n{text}")?)
     }
-    Ok(outcome)
+
+    /// How a run of a log ends, and how much it reads and writes.
+    fn ended(&self, run: Run, log: &[u8]) -> Result<String, TrialFault> {
+        let mut log = Counted::new(log);
+        let mut text = Counted::new(Vec::new(self.alloc));
+        let ended = match run.execute(self.rt, self.alloc, &mut log, &mut text) {
+            Ok(()) => String::from_str(self.alloc, "whole")?,
+            Err(fault) => format!(in self.alloc; "{fault}")?,
+        };
+        let (read, written) = (log.given, text.inner.len());
+        Ok(format!(in self.alloc; "{ended}, {read} bytes read, {written} written")?)
+    }
+
+    /// What is said of each run of a log.
+    pub fn told(&self, log: &[u8], telling: Telling) -> Result<String, TrialFault> {
+        let mut outcome = String::new(self.alloc);
+        for run in self.list {
+            let part = match telling {
+                Telling::Text => self.printed(*run, log)?,
+                Telling::End => self.ended(*run, log)?,
+                Telling::Tail(bits) => self.tailed(*run, log, bits)?,
+            };
+            put_part(&mut outcome, part.as_str())?;
+        }
+        Ok(outcome)
+    }
 }

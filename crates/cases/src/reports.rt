@@ -1,9 +1,8 @@
-//! Reports of logs: beside those that were worked out, beside one another, and of each beginning of a log.
+//! Reports of logs: beside those that were worked out, beside one another, and of the variants of a log.
 
-use crate::parsing::Runs;
-use crate::run::{Run, right_runs};
-use std::alloc::Global;
-use std::rt::Files;
+use crate::run::{Run, Runs};
+use crate::tail::feeds;
+use std::alloc::{AllocError, Global};
 use std::sync::Wait;
 use std::thread::Threads;
 use trials_base::TrialFault;
@@ -11,25 +10,11 @@ use trials_base::TrialFault;
 /// The first line of a log of version 2.
 const HEADING: &[u8] = b"BOHM 2";
 
-/// By how many of the runs a log has the report that was worked out.
-pub fn worked_reports<R: Files + Threads + Wait + Sync>(
-    rt: &R,
-    alloc: Global,
-    case: &Runs<'_>,
-) -> Result<String, TrialFault> {
-    let wanted = case.log.report(rt, alloc)?;
-    let (log, runs) = (case.bytes.as_slice(), case.runs.as_slice());
-    let right = right_runs(rt, alloc, log, runs, wanted.as_slice())?;
-    let count = runs.len();
-    Ok(format!(in alloc; "as worked by {right} of {count} runs")?)
-}
-
 /// How many lines a text has: the bytes after its last line feed are one too, if there is one at least.
 fn line_count(text: &[u8]) -> usize {
-    let ends = text.iter().filter(|byte| **byte == b'\n').count();
     match text.last() {
-        None | Some(b'\n') => ends,
-        Some(_) => ends.saturating_add(1),
+        None | Some(b'\n') => feeds(text),
+        Some(_) => feeds(text).saturating_add(1),
     }
 }
 
@@ -47,49 +32,77 @@ fn last_line(text: &[u8]) -> &[u8] {
     }
 }
 
-/// How long the report of the run in order is, how it ends, and how many of the runs write the same.
-pub fn same_reports<R: Threads + Wait + Sync>(
-    rt: &R,
-    alloc: Global,
-    case: &Runs<'_>,
-) -> Result<String, TrialFault> {
-    let (log, runs) = (case.bytes.as_slice(), case.runs.as_slice());
-    let report = Run::in_order().text(rt, alloc, log)?;
-    let report = report.as_slice();
-    let (same, count) = (right_runs(rt, alloc, log, runs, report)?, runs.len());
-    let (lines, bytes) = (line_count(report), report.len());
-    let last = str::from_utf8(last_line(report)).unwrap_or("no text");
-    Ok(format!(in alloc;
-        "{lines} lines, {bytes} bytes, the last '{last}'; the same by {same} of {count} runs"
-    )?)
+/// Logs that are made of another.
+#[derive(Clone, Copy, Debug, PartialEq, Eq)]
+pub enum Variants {
+    /// Its beginnings, whose last line may so be cut anywhere.
+    Beginnings,
+    /// Those of which one byte is changed to another value, and of these one of this many.
+    Changes(usize),
 }
 
-/// Whether the report of a log by the run in order has a line for each of its lines but a heading, and is that of the runs too.
-pub fn is_reported<R: Threads + Wait + Sync>(
-    rt: &R,
+/// How many other values a byte may have.
+const OTHERS: usize = 255;
+
+/// The variant of this number: the first beginning is empty, and the first changes are those of the first byte.
+fn variant_of(
     alloc: Global,
     log: &[u8],
-    runs: &[Run],
-) -> Result<bool, TrialFault> {
-    let report = Run::in_order().text(rt, alloc, log)?;
-    let same = right_runs(rt, alloc, log, runs, report.as_slice())?;
-    let lines = line_count(log).saturating_sub(usize::from(has_heading(log)));
-    Ok(same == runs.len() && line_count(report.as_slice()) == lines)
+    variants: Variants,
+    number: usize,
+) -> Result<Vec<u8>, AllocError> {
+    if variants == Variants::Beginnings {
+        return Vec::from_slice(alloc, &log[..number.min(log.len())]);
+    }
+    let mut changed = Vec::from_slice(alloc, log)?;
+    if let Some(byte) = changed.as_mut_slice().get_mut(number / OTHERS) {
+        let more = (number % OTHERS) as u8;
+        *byte = (*byte).wrapping_add(more).wrapping_add(1);
+    }
+    Ok(changed)
 }
 
-/// For how many of the beginnings of a log, whose last line may so be cut anywhere, all runs write one report with as many lines.
-pub fn beginnings<R: Threads + Wait + Sync>(
-    rt: &R,
-    alloc: Global,
-    case: &Runs<'_>,
-) -> Result<String, TrialFault> {
-    let log = case.bytes.as_slice();
-    let mut right: usize = 0;
-    for length in 0..log.len() + 1 {
-        if is_reported(rt, alloc, &log[..length], case.runs.as_slice())? {
-            right = right.saturating_add(1);
-        }
+impl<R: Threads + Wait + Sync> Runs<'_, R> {
+    /// By how many of the runs a log has the report that was worked out.
+    pub fn worked_reports(&self, log: &[u8], wanted: &[u8]) -> Result<String, TrialFault> {
+        let (right, count) = (self.right(log, wanted)?, self.list.len());
+        Ok(format!(in self.alloc; "as worked by {right} of {count} runs")?)
     }
-    let all = log.len() + 1;
-    Ok(format!(in alloc; "{right} of {all} have one report with as many lines")?)
+
+    /// How long the report of the run in order is, how it ends, and how many of the runs write the same.
+    pub fn same_reports(&self, log: &[u8]) -> Result<String, TrialFault> {
+        let report = self.text(Run::in_order(), log)?;
+        let report = report.as_slice();
+        let (same, count) = (self.right(log, report)?, self.list.len());
+        let (lines, bytes) = (line_count(report), report.len());
+        let last = str::from_utf8(last_line(report)).unwrap_or("no text");
+        Ok(format!(in self.alloc;
+            "{lines} lines, {bytes} bytes, the last '{last}'; the same by {same} of {count} runs"
+        )?)
+    }
+
+    /// Whether the report of a log by the run in order has a line for each of its lines but a heading, and is that of the runs too.
+    fn is_reported(&self, log: &[u8]) -> Result<bool, TrialFault> {
+        let report = self.text(Run::in_order(), log)?;
+        let same = self.right(log, report.as_slice())?;
+        let lines = line_count(log).saturating_sub(usize::from(has_heading(log)));
+        Ok(same == self.list.len() && line_count(report.as_slice()) == lines)
+    }
+
+    /// For how many of the variants of a log all runs write one report with as many lines.
+    pub fn variants(&self, log: &[u8], variants: Variants) -> Result<String, TrialFault> {
+        let (count, every) = match variants {
+            Variants::Beginnings => (log.len() + 1, 1),
+            Variants::Changes(every) => (log.len().saturating_mul(OTHERS), every.max(1)),
+        };
+        let (mut tried, mut right): (usize, usize) = (0, 0);
+        for number in 0..count {
+            if number % every == 0 {
+                let log = variant_of(self.alloc, log, variants, number)?;
+                tried = tried.saturating_add(1);
+                right = right.saturating_add(usize::from(self.is_reported(log.as_slice())?));
+            }
+        }
+        Ok(format!(in self.alloc; "{right} of {tried} have one report with as many lines")?)
+    }
 }

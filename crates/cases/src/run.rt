@@ -24,14 +24,9 @@ impl RandomSource for Repeating {
     }
 }
 
-/// The seed that is drawn from a source which repeats this byte.
-fn seed_of(byte: u8) -> Result<HashSeed, TrialFault> {
-    Ok(HashSeed::drawn(&Repeating(byte))?)
-}
-
-/// What makes a text of a log: its report by one of the runs, or the answer to a question about it.
+/// What makes a text of a log: its report by one of the ways, or the answer to a question about it.
 #[derive(Clone, Copy)]
-pub enum Run {
+pub enum Way {
     /// The report, one statement after another, with lines read ahead so.
     InOrder(ReadingAhead),
     /// The report, by the definitions.
@@ -40,22 +35,36 @@ pub enum Run {
     Batches(Settings),
     /// The report in batches, all of which are kept.
     Kept(Settings),
-    /// The report, one statement after another, by maps under the seed of a source that repeats this byte.
-    SeededInOrder(u8),
-    /// The report by the definitions, under such a seed.
-    SeededSlow(u8),
-    /// The report in batches, of which nothing is kept, under such a seed.
-    SeededBatches(u8, Settings),
     /// Why a place was admitted or denied.
     Explain(Question),
     /// The picture of the grants before a place, or at the end.
     Picture(Option<Place>),
 }
 
+/// A way to make a text of a log, by maps under a fixed seed, or one that is drawn from a source which repeats this byte.
+#[derive(Clone, Copy)]
+pub struct Run {
+    pub byte: Option<u8>,
+    pub way: Way,
+}
+
 impl Run {
+    /// This way by maps under a fixed seed.
+    pub fn fixed(way: Way) -> Run {
+        Run { byte: None, way }
+    }
+
     /// The report, one statement after another, with each line read in its turn.
     pub fn in_order() -> Run {
-        Run::InOrder(ReadingAhead::by(0))
+        Run::fixed(Way::InOrder(ReadingAhead::by(0)))
+    }
+
+    /// The seed of its maps.
+    fn seed(self) -> Result<HashSeed, TrialFault> {
+        match self.byte {
+            Some(byte) => Ok(HashSeed::drawn(&Repeating(byte))?),
+            None => Ok(HashSeed::fixed()),
+        }
     }
 
     /// Runs a log from its reader to its writer.
@@ -66,36 +75,16 @@ impl Run {
         log: &mut Counted<R>,
         text: &mut Counted<W>,
     ) -> Result<(), TrialFault> {
-        let fixed = HashSeed::fixed();
-        match self {
-            Run::InOrder(ahead) => report_in_order(rt, alloc, log, text, ahead, fixed)?,
-            Run::Slow => serial_text(alloc, log, text, fixed)?,
-            Run::Batches(settings) => report_text(rt, alloc, log, text, &settings, fixed)?,
-            Run::Kept(settings) => run_kept(rt, alloc, log, text, &settings)?,
-            Run::SeededInOrder(byte) => {
-                let (ahead, seed) = (ReadingAhead::by(0), seed_of(byte)?);
-                report_in_order(rt, alloc, log, text, ahead, seed)?
-            }
-            Run::SeededSlow(byte) => serial_text(alloc, log, text, seed_of(byte)?)?,
-            Run::SeededBatches(byte, settings) => {
-                report_text(rt, alloc, log, text, &settings, seed_of(byte)?)?
-            }
-            Run::Explain(question) => explain_text(rt, alloc, log, text, question, fixed)?,
-            Run::Picture(limit) => grants_text(rt, alloc, log, text, limit, fixed)?,
+        let seed = self.seed()?;
+        match self.way {
+            Way::InOrder(ahead) => report_in_order(rt, alloc, log, text, ahead, seed)?,
+            Way::Slow => serial_text(alloc, log, text, seed)?,
+            Way::Batches(settings) => report_text(rt, alloc, log, text, &settings, seed)?,
+            Way::Kept(settings) => run_kept(rt, alloc, log, text, &settings, seed)?,
+            Way::Explain(question) => explain_text(rt, alloc, log, text, question, seed)?,
+            Way::Picture(limit) => grants_text(rt, alloc, log, text, limit, seed)?,
         }
         Ok(())
-    }
-
-    /// The text that the run writes of a log.
-    pub fn text<T: Threads + Wait + Sync>(
-        self,
-        rt: &T,
-        alloc: Global,
-        log: &[u8],
-    ) -> Result<Vec<u8>, TrialFault> {
-        let mut text = Counted::new(Vec::new(alloc));
-        self.execute(rt, alloc, &mut Counted::new(log), &mut text)?;
-        Ok(text.inner)
     }
 }
 
@@ -106,24 +95,36 @@ fn run_kept<T: Threads + Wait + Sync, R: Read, W: Write>(
     log: &mut Counted<R>,
     text: &mut Counted<W>,
     settings: &Settings,
+    seed: HashSeed,
 ) -> Result<(), TrialFault> {
-    let _engine = run_text(rt, alloc, log, text, settings, HashSeed::fixed())?;
+    let _engine = run_text(rt, alloc, log, text, settings, seed)?;
     Ok(())
 }
 
-/// By how many of the runs the log has this text.
-pub fn right_runs<T: Threads + Wait + Sync>(
-    rt: &T,
-    alloc: Global,
-    log: &[u8],
-    runs: &[Run],
-    wanted: &[u8],
-) -> Result<usize, TrialFault> {
-    let mut right: usize = 0;
-    for run in runs {
-        if run.text(rt, alloc, log)?.as_slice() == wanted {
-            right = right.saturating_add(1);
-        }
+/// Runs, and what they run by.
+#[derive_where(Clone, Copy)]
+pub struct Runs<'a, R> {
+    pub rt: &'a R,
+    pub alloc: Global,
+    pub list: &'a [Run],
+}
+
+impl<R: Threads + Wait + Sync> Runs<'_, R> {
+    /// The text that a run writes of a log.
+    pub fn text(&self, run: Run, log: &[u8]) -> Result<Vec<u8>, TrialFault> {
+        let mut text = Counted::new(Vec::new(self.alloc));
+        run.execute(self.rt, self.alloc, &mut Counted::new(log), &mut text)?;
+        Ok(text.inner)
     }
-    Ok(right)
+
+    /// By how many of the runs a log has this text.
+    pub fn right(&self, log: &[u8], wanted: &[u8]) -> Result<usize, TrialFault> {
+        let mut right: usize = 0;
+        for run in self.list {
+            if self.text(*run, log)?.as_slice() == wanted {
+                right = right.saturating_add(1);
+            }
+        }
+        Ok(right)
+    }
 }

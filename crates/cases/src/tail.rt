@@ -2,9 +2,8 @@
 
 ghost use Rattle.std.specs.Prelude.{None};
 
-use crate::run::Run;
+use crate::run::{Run, Runs};
 use line_io::Counted;
-use std::alloc::Global;
 use std::cell::Cell;
 use std::io;
 use std::io::{Read, Write};
@@ -30,22 +29,16 @@ pub struct Tail<'a> {
     pub left: &'a [u8],
     pub bits: Bits,
     /// How many lines of the report were written.
-    pub reported: &'a Cell<u64>,
+    pub reported: &'a Cell<usize>,
     /// How many lines were given whole.
-    pub lines: u64,
+    pub lines: usize,
     pub reads: u64,
     pub late: u64,
 }
 
 /// How many line feeds there are.
-fn feeds(bytes: &[u8]) -> u64 {
-    let mut count: u64 = 0;
-    for byte in bytes {
-        if *byte == b'\n' {
-            count = count.saturating_add(1);
-        }
-    }
-    count
+pub fn feeds(bytes: &[u8]) -> usize {
+    bytes.iter().filter(|byte| **byte == b'\n').count()
 }
 
 /// How long the first line is, with its line feed.
@@ -88,7 +81,7 @@ impl Read for Tail<'_> {
 #[derive(Drop)]
 pub struct Report<'a> {
     pub text: Vec<u8>,
-    pub reported: &'a Cell<u64>,
+    pub reported: &'a Cell<usize>,
     pub writes: u64,
 }
 
@@ -108,36 +101,34 @@ impl Write for Report<'_> {
     }
 }
 
-/// Runs a log that comes so, and says how many reads and writes that took, how many reads were late, and whether the report is that of the
-/// run in order.
-pub fn tailed_run<R: Threads + Wait + Sync>(
-    rt: &R,
-    alloc: Global,
-    log: &[u8],
-    bits: Bits,
-    run: &Run,
-) -> Result<String, TrialFault> {
-    let wanted = Run::in_order().text(rt, alloc, log)?;
-    let reported = Cell::new(0);
-    let mut tail = Counted::new(Tail {
-        left: log,
-        bits,
-        reported: &reported,
-        lines: 0,
-        reads: 0,
-        late: 0,
-    });
-    let mut report = Counted::new(Report {
-        text: Vec::new(alloc),
-        reported: &reported,
-        writes: 0,
-    });
-    run.execute(rt, alloc, &mut tail, &mut report)?;
-    let (reads, late, writes) = (tail.inner.reads, tail.inner.late, report.inner.writes);
-    let same = if report.inner.text.as_slice() == wanted.as_slice() {
-        "same"
-    } else {
-        "other"
-    };
-    Ok(format!(in alloc; "{reads} reads, {late} late, {writes} writes, the {same} report")?)
+impl<R: Threads + Wait + Sync> Runs<'_, R> {
+    /// Runs a log that comes so, and says how many reads and writes that took, how many reads were late, and whether the report is that of
+    /// the run in order.
+    pub fn tailed(&self, run: Run, log: &[u8], bits: Bits) -> Result<String, TrialFault> {
+        let wanted = self.text(Run::in_order(), log)?;
+        let reported = Cell::new(0);
+        let mut tail = Counted::new(Tail {
+            left: log,
+            bits,
+            reported: &reported,
+            lines: 0,
+            reads: 0,
+            late: 0,
+        });
+        let mut report = Counted::new(Report {
+            text: Vec::new(self.alloc),
+            reported: &reported,
+            writes: 0,
+        });
+        run.execute(self.rt, self.alloc, &mut tail, &mut report)?;
+        let (reads, late, writes) = (tail.inner.reads, tail.inner.late, report.inner.writes);
+        let same = if report.inner.text.as_slice() == wanted.as_slice() {
+            "same"
+        } else {
+            "other"
+        };
+        Ok(format!(in self.alloc;
+            "{reads} reads, {late} late, {writes} writes, the {same} report"
+        )?)
+    }
 }

@@ -17,33 +17,20 @@
 //!   program.
 //! - `examples FILE`: how many examples a file has, and how many of them are as it shows.
 
-use crate::changed::changed_logs;
 use crate::command::{endings, read_command};
 use crate::drawn::{Change, Drawn, drawn_reports};
 use crate::examples::shown_examples;
-use crate::failing::{Failing, failing_runs};
-use crate::kept_rows::kept_rows;
-use crate::parsing::{Runs, parse_count, parse_log, parse_number, parse_run_list, parse_runs};
-use crate::printing::{Telling, told_runs};
-use crate::reports::{beginnings, same_reports, worked_reports};
+use crate::failing::Failing;
+use crate::parsing::{parse_count, parse_log, parse_number, parse_run_list};
+use crate::printing::Telling;
+use crate::reports::Variants;
+use crate::run::Runs;
 use crate::tail::Bits;
 use std::alloc::Global;
 use std::rt::Files;
 use std::sync::Wait;
 use std::thread::Threads;
 use trials_base::TrialFault;
-
-/// The first word, and the log and the runs after it.
-fn parse_more<'a, R: Files>(
-    rt: &R,
-    alloc: Global,
-    words: &[&'a str],
-) -> Result<(&'a str, Runs<'a>), TrialFault> {
-    let [first, rest @ ..] = words else {
-        return Err(TrialFault::Words);
-    };
-    Ok((*first, parse_runs(rt, alloc, rest)?))
-}
 
 /// How logs are drawn, what is changed of their lines then, and their runs.
 fn parse_drawn<'a, R: Files>(
@@ -66,23 +53,36 @@ fn parse_drawn<'a, R: Files>(
     })
 }
 
-/// What a case that has more before its log results in.
-fn more_outcome<R: Files + Threads + Wait + Sync>(
+/// What a case results in that has a log and runs of it, after this word or none.
+fn runs_outcome<R: Files + Threads + Wait + Sync>(
     rt: &R,
     alloc: Global,
     verb: &str,
+    first: &str,
     words: &[&str],
 ) -> Result<String, TrialFault> {
-    let (first, runs) = parse_more(rt, alloc, words)?;
+    let [log, words @ ..] = words else {
+        return Err(TrialFault::Words);
+    };
+    let named = parse_log(log)?;
+    let list = parse_run_list(rt, alloc, words)?;
+    let bytes = named.bytes(rt, alloc)?;
+    let (list, log) = (list.as_slice(), bytes.as_slice());
+    let runs = Runs { rt, alloc, list };
     match (verb, first) {
-        ("fail", "reads") => failing_runs(rt, alloc, Failing::Reads, &runs),
-        ("fail", "writes") => failing_runs(rt, alloc, Failing::Writes, &runs),
-        ("fail", "ends") => failing_runs(rt, alloc, Failing::Ends, &runs),
-        ("tail", "lines") => told_runs(rt, alloc, Telling::Tail(Bits::Lines), &runs),
-        ("tail", "halves") => told_runs(rt, alloc, Telling::Tail(Bits::Halves), &runs),
-        ("tail", "pieces") => told_runs(rt, alloc, Telling::Tail(Bits::Pieces), &runs),
-        ("changes", every) => changed_logs(rt, alloc, parse_number(every)? as usize, &runs),
-        ("rows", row) => kept_rows(rt, alloc, parse_count(row)?, &runs),
+        ("report", _) => runs.worked_reports(log, named.report(rt, alloc)?.as_slice()),
+        ("same", _) => runs.same_reports(log),
+        ("beginnings", _) => runs.variants(log, Variants::Beginnings),
+        ("changes", every) => runs.variants(log, Variants::Changes(parse_number(every)? as usize)),
+        ("rows", row) => runs.kept_rows(log, parse_count(row)?),
+        ("print", _) => runs.told(log, Telling::Text),
+        ("ends", _) => runs.told(log, Telling::End),
+        ("fail", "reads") => runs.failing(log, Failing::Reads),
+        ("fail", "writes") => runs.failing(log, Failing::Writes),
+        ("fail", "ends") => runs.failing(log, Failing::Ends),
+        ("tail", "lines") => runs.told(log, Telling::Tail(Bits::Lines)),
+        ("tail", "halves") => runs.told(log, Telling::Tail(Bits::Halves)),
+        ("tail", "pieces") => runs.told(log, Telling::Tail(Bits::Pieces)),
         _ => Err(TrialFault::Words),
     }
 }
@@ -95,15 +95,18 @@ fn words_outcome<R: Files + Threads + Wait + Sync>(
     words: &[&str],
 ) -> Result<String, TrialFault> {
     match verb {
-        "report" => worked_reports(rt, alloc, &parse_runs(rt, alloc, words)?),
-        "same" => same_reports(rt, alloc, &parse_runs(rt, alloc, words)?),
-        "beginnings" => beginnings(rt, alloc, &parse_runs(rt, alloc, words)?),
-        "print" => told_runs(rt, alloc, Telling::Text, &parse_runs(rt, alloc, words)?),
-        "ends" => told_runs(rt, alloc, Telling::End, &parse_runs(rt, alloc, words)?),
+        "report" | "same" | "beginnings" | "print" | "ends" => {
+            runs_outcome(rt, alloc, verb, "", words)
+        }
+        "fail" | "tail" | "changes" | "rows" => {
+            let [first, words @ ..] = words else {
+                return Err(TrialFault::Words);
+            };
+            runs_outcome(rt, alloc, verb, first, words)
+        }
         "drawn" => drawn_reports(rt, alloc, &parse_drawn(rt, alloc, words, Change::Nothing)?),
         "spoilt" => drawn_reports(rt, alloc, &parse_drawn(rt, alloc, words, Change::Byte)?),
         "reworded" => drawn_reports(rt, alloc, &parse_drawn(rt, alloc, words, Change::Word)?),
-        "fail" | "tail" | "changes" | "rows" => more_outcome(rt, alloc, verb, words),
         _ => Err(TrialFault::NoSuchVerb),
     }
 }

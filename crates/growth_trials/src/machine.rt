@@ -10,7 +10,7 @@ use bohm_core::{Machine, State};
 use bohm_core_base::Event;
 use engine::RunState;
 use filling::{CompletedBatch, Finished, RangeKey, finish};
-use log_batch::{LogBatch, StateBefore};
+use log_batch::{BatchRange, LogBatch, StateBefore};
 use log_machine::OfLog;
 use std::alloc::{AllocError, Global};
 use trials_base::{TrialFault, WholeLog, before_place, log_of, new_batch};
@@ -251,7 +251,13 @@ fn open_size(alloc: Global, log: &WholeLog, before: &RunState) -> Result<usize, 
         chains: &before.chains,
         book: before.book.book(),
     };
-    let open = LogBatch::open(alloc, log.tail(), state, 0..log.len(), 1)?;
+    let places = BatchRange {
+        log: log.tail(),
+        before: state,
+        range: 0..log.len(),
+        partitions: 1,
+    };
+    let open = LogBatch::open(alloc, places)?;
     Ok(open.size())
 }
 

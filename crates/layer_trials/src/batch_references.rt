@@ -35,20 +35,17 @@ fn print_refs(rt: &impl Print, refs: &Refs) -> Result<(), TrialFault> {
     Ok(())
 }
 
-/// Prints the references of the batch that has the places of the log from the first one on.
-fn print_references(
-    rt: &impl Print,
-    alloc: Global,
-    log: &WholeLog,
-    first: Place,
-    partitions: usize,
-) -> Result<(), TrialFault> {
-    if first > log.len() || partitions == 0 {
-        return Err(TrialFault::Call);
+/// Prints the references of the batches that have the places of the log from a first one on.
+fn print_references(rt: &impl Print, alloc: Global, log: &WholeLog) -> Result<(), TrialFault> {
+    for (first, partitions) in BATCHES {
+        if first > log.len() || partitions == 0 {
+            return Err(TrialFault::Call);
+        }
+        println!(rt; "first place and partitions: {:?}", (first, partitions))?;
+        let refs = references_of(alloc, log, first..log.len(), partitions)?;
+        print_refs(rt, &refs)?;
     }
-    println!(rt; "first place and partitions: {:?}", (first, partitions))?;
-    let refs = references_of(alloc, log, first..log.len(), partitions)?;
-    print_refs(rt, &refs)
+    Ok(())
 }
 
 /// Prints the references of no batch and of several, and the partitions of a row and of a table.
@@ -59,9 +56,5 @@ pub fn print_batch_references(rt: &impl Print, alloc: Global) -> Result<(), Tria
         "partitions: {:?}",
         (rows, partition_of_table(Table(65), 64))
     )?;
-    let log = log_of(alloc, &LINES)?;
-    for (first, partitions) in BATCHES {
-        print_references(rt, alloc, &log, first, partitions)?;
-    }
-    Ok(())
+    print_references(rt, alloc, &log_of(alloc, &LINES)?)
 }

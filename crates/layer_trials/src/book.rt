@@ -3,8 +3,8 @@
 use crate::both::{Both, agreed, expect};
 use crate::counting::Counting;
 use explain::{are_sound, explain_needs};
-use grants::{Book, BookView, Records, denial, holds, holds_option, last_loss, to_end};
-use model_base::{Cause, Grantee, Kind, Need, Place, RecordName, Revocation, Table, User};
+use grants::{Book, BookView, Holder, Records, denial, holds, holds_option, last_loss, to_end};
+use model_base::{Grantee, Kind, Need, Place, RecordName, Revocation, Table, User};
 use std::alloc::Global;
 use trials_base::{TABLE, TrialFault, count_of, grant_of, number_of, revocation_of};
 
@@ -61,16 +61,13 @@ fn give_and_take(alloc: Global, both: &mut Both, count: u32) -> Result<(), Trial
     Ok(())
 }
 
-/// What a view says of a need: whether it is held, how it is denied, and where it was lost.
-#[derive(Clone, Copy, PartialEq, Eq, Debug)]
-struct Found {
-    held: bool,
-    denial: Option<Cause>,
-    lost: Option<Place>,
-}
-
-/// What a view says of a user's need.
-fn ask<V: Records>(view: &mut V, user: User, need: &Need) -> Result<Found, TrialFault> {
+/// What a view says of a user's need: whether it is held, how it is denied, and where it was lost.
+fn need_text<V: Records>(
+    alloc: Global,
+    view: &mut V,
+    user: User,
+    need: &Need,
+) -> Result<String, TrialFault> {
     if !view.covers(need.table) {
         return Err(TrialFault::Call);
     }
@@ -85,11 +82,11 @@ fn ask<V: Records>(view: &mut V, user: User, need: &Need) -> Result<Found, Trial
     } else {
         last_loss(view, user, need)
     };
-    Ok(Found { held, denial, lost })
+    Ok(format!(in alloc; "held: {held}, denial: {denial:?}, lost: {lost:?}")?)
 }
 
 /// What both books at a place say of a user's need, and how many records were looked at.
-fn need_text(
+fn counted_need(
     alloc: Global,
     both: &Both,
     place: Place,
@@ -97,12 +94,10 @@ fn need_text(
     need: &Need,
 ) -> Result<String, TrialFault> {
     let mut view = counted(&both.book, place);
-    let found = ask(&mut view, user, need)?;
-    expect(found == ask(&mut both.plain.at(place), user, need)?)?;
-    let (Found { held, denial, lost }, grants, ends) = (found, view.grants, view.ends);
-    Ok(format!(in alloc;
-        "held: {held}, denial: {denial:?}, lost: {lost:?}; looked at {grants} grants and {ends} ends"
-    )?)
+    let text = need_text(alloc, &mut view, user, need)?;
+    expect(text == need_text(alloc, &mut both.plain.at(place), user, need)?)?;
+    let (grants, ends) = (view.grants, view.ends);
+    Ok(format!(in alloc; "{text}; looked at {grants} grants and {ends} ends")?)
 }
 
 /// The records that a revocation would end, as a view says.
@@ -144,8 +139,12 @@ fn view_text<V: Records>(
         return Err(TrialFault::Call);
     }
     let (owner, grant, end) = (view.owner(TABLE), view.grant(0), view.end(0));
-    let to = view.next_to(Grantee::User(User(users.0)), Kind::Read, TABLE, 0);
-    let later = view.next_to(Grantee::User(User(users.0)), Kind::Read, TABLE, slots);
+    let holder = &Holder {
+        grantee: Grantee::User(User(users.0)),
+        kind: Kind::Read,
+        table: TABLE,
+    };
+    let (to, later) = (view.next_to(*holder, 0), view.next_to(*holder, slots));
     let by = view.next_by(User(users.1), Kind::Read, TABLE, 0);
     let grantee = grant.map(|grant| grant.grantee);
     Ok(format!(in alloc;
@@ -213,7 +212,7 @@ pub fn outcome(alloc: Global, both: &mut Both, words: &[&str]) -> Result<String,
         "ends" => ends_text(alloc, both, number_of(words, 0)?, users_of(words, 1)?),
         "need" => {
             let user = User(count_of(words, 1)?);
-            need_text(alloc, both, number_of(words, 0)?, user, &need_of(words, 2)?)
+            counted_need(alloc, both, number_of(words, 0)?, user, &need_of(words, 2)?)
         }
         "lines" => {
             let (user, need) = (User(count_of(words, 1)?), need_of(words, 2)?);

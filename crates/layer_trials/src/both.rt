@@ -1,6 +1,6 @@
 //! A book of grants, and the plain one in which the same is done.
 
-use grants::Book;
+use grants::{Book, RecordBook};
 use model_base::{Grant, Place, RecordName, Revocation, User};
 use std::alloc::Global;
 use trials_base::{PlainBook, TrialFault, enter, give, take};

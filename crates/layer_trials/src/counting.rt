@@ -1,7 +1,7 @@
 //! A view that counts how many records are looked at.
 
-use grants::{NextBy, NextInForce, Records};
-use model_base::{Grant, Grantee, Kind, Place, Table, User};
+use grants::{Holder, NextBy, NextInForce, Records};
+use model_base::{Grant, Kind, Place, Table, User};
 
 /// A view, and how often a grant and an end were asked for.
 #[derive(Drop)]
@@ -42,39 +42,19 @@ impl<V: Records> Records for Counting<V> {
         self.view.end(i)
     }
 
-    fn next_to(
-        &mut self,
-        grantee: Grantee,
-        kind: Kind,
-        table: Table,
-        from: usize,
-    ) -> Option<usize> {
-        self.view.next_to(grantee, kind, table, from)
+    fn next_to(&mut self, holder: Holder, from: usize) -> Option<usize> {
+        self.view.next_to(holder, from)
     }
 
     fn next_by(&mut self, user: User, kind: Kind, table: Table, from: usize) -> Option<usize> {
         self.view.next_by(user, kind, table, from)
     }
 
-    fn next_in_force(
-        &mut self,
-        grantee: Grantee,
-        kind: Kind,
-        table: Table,
-        option: bool,
-        from: usize,
-    ) -> Option<NextInForce> {
-        self.view.next_in_force(grantee, kind, table, option, from)
+    fn next_in_force(&mut self, holder: Holder, option: bool, from: usize) -> Option<NextInForce> {
+        self.view.next_in_force(holder, option, from)
     }
 
-    fn next_in_force_by(
-        &mut self,
-        user: User,
-        grantee: Grantee,
-        kind: Kind,
-        table: Table,
-        from: usize,
-    ) -> Option<NextBy> {
-        self.view.next_in_force_by(user, grantee, kind, table, from)
+    fn next_in_force_by(&mut self, user: User, holder: Holder, from: usize) -> Option<NextBy> {
+        self.view.next_in_force_by(user, holder, from)
     }
 }

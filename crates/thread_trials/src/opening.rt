@@ -8,7 +8,7 @@ ghost use Rattle.engine.specs.RunState.{IsRunState};
 use engine::RunState;
 use filling::{Placer, RangeKey, open};
 use filling_base::Batch;
-use log_batch::{LogBatch, StateBefore};
+use log_batch::{BatchRange, LogBatch, StateBefore};
 use model_base::{MOST_PARTITIONS, Place};
 use std::alloc::Global;
 use trials_base::{TrialFault, WholeLog};
@@ -33,8 +33,13 @@ pub fn opened<'a>(
         chains: &before.chains,
         book: before.book.book(),
     };
-    let range = first..log.len();
-    let batch = LogBatch::open(alloc, log.tail(), before, range, partitions)?;
+    let places = BatchRange {
+        log: log.tail(),
+        before,
+        range: first..log.len(),
+        partitions,
+    };
+    let batch = LogBatch::open(alloc, places)?;
     Ok(open(alloc, batch)?)
 }
 

@@ -8,7 +8,7 @@ ghost use Rattle.engine.specs.RunState.{IsRunState};
 
 use crate::logs::WholeLog;
 use engine::RunState;
-use log_batch::{LogBatch, StateBefore};
+use log_batch::{BatchRange, LogBatch, StateBefore};
 use model_base::{MOST_PARTITIONS, Place};
 use placing::{Part, Refs, merge, place};
 use std::alloc::{AllocError, Global};
@@ -76,5 +76,11 @@ pub fn new_batch<'a>(
         chains: &before.chains,
         book: before.book.book(),
     };
-    LogBatch::new(alloc, log.tail(), before, range, partitions, references)
+    let places = BatchRange {
+        log: log.tail(),
+        before,
+        range,
+        partitions,
+    };
+    LogBatch::new(alloc, places, references)
 }

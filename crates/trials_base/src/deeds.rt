@@ -1,9 +1,13 @@
 //! Deeds on table 0, which are made in a book once each condition was tested.
 
-ghost use Rattle.std.specs.Prelude.{◌≡◌};
+ghost use Rattle.std.specs.Prelude.{◌≡◌, ◌<◌, Decides, IsTrue, length};
+ghost use Rattle.model_base.specs.Privileges.{option_of};
+ghost use Rattle.grants_base.specs.Book.{IsLater, view_of};
+ghost use Rattle.grants_base.specs.View.{holds_in};
 
 use crate::fault::TrialFault;
-use grants::{Book, Records, holds_option};
+use grants::{Book, RecordBook, Records, ViewOf, holds_option};
+use grants_base::lies_below;
 use model_base::{
     Grant, Grantee, Grantees, Kind, Kinds, Place, Position, RecordName, Revocation, Table, User,
 };
@@ -40,6 +44,32 @@ pub fn revocation_of(place: Place, users: (u32, u32)) -> Revocation {
     }
 }
 
+/// Whether the place lies above those of all tables, grants and ends of a book.
+#[tactic(auto, using(grants::proofs::LaterLaws::decides_later))]
+pub(crate) fn is_later<B: RecordBook>(book: &B, place: Place) -> bool
+    ensures { Decides result (IsLater (B.contents book.now) place) }
+{
+    book.tables().iter().all(|creation| creation.place < place)
+        && book
+            .records()
+            .iter()
+            .all(|record| lies_below(record, place))
+}
+
+/// Whether a grant may come last in a book: its grantor holds the option.
+pub(crate) fn may_come<B: RecordBook>(book: &B, grant: &Grant) -> bool
+    ensures later { IsTrue result → IsLater (B.contents book.now) grant.now.place }
+    ensures table { IsTrue result → grant.now.table < length (B.contents book.now).tables }
+    ensures held { IsTrue result
+        → IsTrue (holds_in (view_of (B.contents book.now) grant.now.place) grant.now.grantor (option_of grant.now)) }
+{
+    let place = grant.place;
+    let mut view = ViewOf { book, place };
+    is_later(book, place)
+        && view.covers(grant.table)
+        && holds_option(&mut view, grant.grantor, grant.kind, grant.table)
+}
+
 /// Adds a table of user 0.
 pub fn enter(book: &mut Book, place: Place) -> Result<(), TrialFault> {
     if !book.is_later(place) || book.tables().len() >= 65_536 {
@@ -51,14 +81,7 @@ pub fn enter(book: &mut Book, place: Place) -> Result<(), TrialFault> {
 
 /// Makes a grant, whose grantor holds the option.
 pub fn give(book: &mut Book, grant: Grant) -> Result<(), TrialFault> {
-    let (place, table) = (grant.place, grant.table);
-    if !book.is_later(place) || book.tables().len() <= table.0 as usize {
-        return Err(TrialFault::Call);
-    }
-    if !book.at(place).covers(table) {
-        return Err(TrialFault::Call);
-    }
-    if !holds_option(&mut book.at(place), grant.grantor, grant.kind, table) {
+    if !may_come(book, &grant) {
         return Err(TrialFault::Call);
     }
     Ok(book.grant(grant)?)

@@ -31,9 +31,6 @@ pub enum TrialFault {
     /// A batch or a run failed.
     #[error(transparent)]
     Run(#[from] EngineFault),
-    /// A run failed.
-    #[error(transparent)]
-    Text(#[from] bohm_base::EngineFault),
     /// A question has no answer.
     #[error(transparent)]
     Question(#[from] AuditFault),
@@ -82,7 +79,6 @@ impl TrialFault {
             TrialFault::Run(fault) => {
                 fault == EngineFault::NoMemory || fault == EngineFault::Spawn
             }
-            TrialFault::Text(fault) => fault == bohm_base::EngineFault::NoMemory,
             TrialFault::Question(fault) => fault == AuditFault::NoMemory,
             TrialFault::Place(fault) => fault == ExplainFault::NoMemory,
             _ => false,

@@ -21,5 +21,5 @@ pub use deeds::{TABLE, enter, give, grant_of, revocation_of, take};
 pub use fault::TrialFault;
 pub use files::{count_of, number_of, read_file, text_of, words_of};
 pub use logs::{WholeLog, adding_log, log_of};
-pub use plain_book::{PlainBook, PlainView};
+pub use plain_book::PlainBook;
 pub use rows::row_text;

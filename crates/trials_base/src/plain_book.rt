@@ -1,19 +1,20 @@
 //! The book of grants as two plain lists, without indexes: to compare the book with.
 
-ghost use Rattle.std.specs.Prelude.{◌==◌, Decides, filter, nat_lt, ◌≤◌, ◌≡◌, ◌<◌, [], ℕ, List, All, IfOk, IsTrue, OnErr, OnOk, length, map};
+ghost use Rattle.std.specs.Prelude.{◌==◌, filter, nat_lt, ◌≡◌, ◌<◌, [], ℕ, List, All, IfOk, OnErr, OnOk, length, map};
 ghost use Rattle.std.specs.List.{list_any};
 ghost use Rattle.model_base.specs.declared.deed.Deed.{Deed};
-ghost use Rattle.model_base.specs.Privileges.{deeds_below, ended_by, option_of, place_of};
+ghost use Rattle.model_base.specs.Privileges.{deeds_below, ended_by, place_of};
 ghost use Rattle.model_base.specs.Records.{ended_at, recorded};
 ghost use Rattle.grants_base.specs.Index.{IsNext, is_by, is_to};
 ghost use Rattle.grants_base.specs.Book.{reopened};
 ghost use Rattle.grants_base.specs.declared.entries.Creation.{Creation};
 ghost use Rattle.model_base.specs.declared.deed.Record.{Record};
 
+use crate::deeds::{is_later, may_come};
 use crate::fault::TrialFault;
-use grants::{holds_option, to_end};
-use grants_base::{Creation, Records, is_by, is_to, lies_below, reopened};
-use model_base::{Grant, Grantee, Kind, Place, Record, RecordName, Revocation, Table, User};
+use grants::{Creation, Holder, RecordBook, ViewOf, is_by, is_to, to_end};
+use grants_base::reopened;
+use model_base::{Grant, Kind, Place, Record, RecordName, Revocation, Table, User};
 use std::alloc::{AllocError, Global};
 use std::marker::Model;
 
@@ -35,8 +36,8 @@ impl Model for PlainBook {
 }
 
 impl PlainBook {
-    ghost use Rattle.grants_base.specs.Book.{IsLater, IsSoundBook, ShowsBook, cut_book, view_of, with_ends, with_grant, with_table};
-    ghost use Rattle.grants_base.specs.View.{ShowsDeeds, holds_in};
+    ghost use Rattle.grants_base.specs.Book.{ShowsBook, cut_book, view_of, with_ends, with_grant, with_table};
+    ghost use Rattle.grants_base.specs.View.{ShowsDeeds};
 
     /// A book without tables and grants.
     #[tactic(auto, using(grants::proofs::BookLaws::sound_empty))]
@@ -50,54 +51,15 @@ impl PlainBook {
         }
     }
 
-    /// The tables, each with its owner and the place of its creation.
-    pub fn tables(&self) -> &[Creation]
-        ensures tables { result.now ≡ self.now.tables }
-        ensures sound { IsSoundBook self.now }
-    {
-        &self.tables
-    }
-
-    /// The records of the grants that were made, each with its end, in order.
-    pub fn records(&self) -> &[Record]
-        ensures { result.now ≡ self.now.records }
-    {
-        &self.records
-    }
-
     /// The book at a place: the grants made below it, with the ends that lie below it, on all tables of the book.
     #[tactic(auto, using(grants::proofs::SeenLaws::shows_view))]
-    pub fn at(&self, place: Place) -> PlainView<'_>
+    pub fn at(&self, place: Place) -> ViewOf<'_, PlainBook>
         ensures book { result.book.now ≡ self.now }
         ensures place { result.place ≡ place }
         ensures shows { (owners : List ℕ) (deeds : List Deed) → ShowsBook self.now owners deeds
             → ShowsDeeds (view_of self.now place) owners (deeds_below place deeds) }
     {
-        PlainView { book: self, place }
-    }
-
-    /// Whether the place lies above those of all tables, grants and ends of the book.
-    #[tactic(auto, using(grants::proofs::LaterLaws::decides_later))]
-    fn is_later(&self, place: Place) -> bool
-        ensures { Decides result (IsLater self.now place) }
-    {
-        self.tables().iter().all(|creation| creation.place < place)
-            && self
-                .records()
-                .iter()
-                .all(|record| lies_below(record, place))
-    }
-
-    /// Whether a grant may come last: its grantor holds the option.
-    fn may_come(&self, grant: &Grant) -> bool
-        ensures later { IsTrue result → IsLater self.now grant.now.place }
-        ensures table { IsTrue result → grant.now.table < length self.now.tables }
-        ensures held { IsTrue result → IsTrue (holds_in (view_of self.now grant.now.place) grant.now.grantor (option_of grant.now)) }
-    {
-        let mut view = self.at(grant.place);
-        self.is_later(grant.place)
-            && view.covers(grant.table)
-            && holds_option(&mut view, grant.grantor, grant.kind, grant.table)
+        ViewOf { book: self, place }
     }
 
     /// Adds a table last, which its creator owns.
@@ -106,7 +68,7 @@ impl PlainBook {
         ensures ok { OnOk result (self.new ≡ with_table self.old (record { owner = owner; place = place })) }
         ensures err { OnErr result (self.new ≡ self.old) }
     {
-        if !self.is_later(place) || self.tables.len() >= 65_536 {
+        if !is_later(self, place) || self.tables.len() >= 65_536 {
             return Err(TrialFault::Call);
         }
         self.tables.push(Creation { owner, place })?;
@@ -118,7 +80,7 @@ impl PlainBook {
         ensures ok { OnOk result (self.new ≡ with_grant self.old grant) }
         ensures err { OnErr result (self.new ≡ self.old) }
     {
-        if !self.may_come(&grant) {
+        if !may_come(self, &grant) {
             return Err(TrialFault::Call);
         }
         self.records.push(Record { grant, end: None })?;
@@ -131,8 +93,7 @@ impl PlainBook {
         ensures { IfOk result (λ ends. (owners : List ℕ) (deeds : List Deed) → ShowsBook self.now owners deeds
             → All (λ deed. place_of deed < revocation.now.place) deeds → ends.items ≡ ended_by owners deeds revocation.now) }
     {
-        let mut view = self.at(revocation.place);
-        let ended = to_end(alloc, &mut view, revocation)?;
+        let ended = to_end(alloc, &mut self.at(revocation.place), revocation)?;
         Ok(ended)
     }
 
@@ -147,7 +108,7 @@ impl PlainBook {
         ensures ok { IfOk result (λ ends. self.new ≡ with_ends self.old revocation.now.place ends.items) }
         ensures err { OnErr result (self.new ≡ self.old) }
     {
-        if !self.is_later(revocation.place) || self.tables.len() <= revocation.table.0 as usize {
+        if !is_later(self, revocation.place) || self.tables.len() <= revocation.table.0 as usize {
             return Err(TrialFault::Call);
         }
         let ended = self.to_end(alloc, revocation)?;
@@ -220,25 +181,12 @@ fn close(records: &mut [Record], place: Place, ended: &[RecordName])
     }
 }
 
-/// A plain book at a place.
-#[derive(Clone, Copy)]
-pub struct PlainView<'a> {
-    book: &'a PlainBook,
-    place: Place,
-}
-
-/// The least index at or above this one whose record is of a grant to this grantee, of this kind on this table.
-fn first_to(
-    records: &[Record],
-    grantee: &Grantee,
-    kind: Kind,
-    table: Table,
-    from: usize,
-) -> Option<usize>
-    ensures { IsNext (is_to grantee.now kind table) (recorded records.now) from result }
+/// The least index at or above this one whose record is of a grant to the holder's grantee, of its kind on its table.
+fn first_to(records: &[Record], holder: &Holder, from: usize) -> Option<usize>
+    ensures { IsNext (is_to holder.now.grantee holder.now.kind holder.now.table) (recorded records.now) from result }
 {
     for i in from..records.len() {
-        if is_to(&records[i].grant, *grantee, kind, table) {
+        if is_to(&records[i].grant, *holder) {
             return Some(i);
         }
     }
@@ -257,56 +205,22 @@ fn first_by(records: &[Record], user: User, kind: Kind, table: Table, from: usiz
     None
 }
 
-impl Records for PlainView<'_> {
-    ghost use Rattle.grants_base.specs.Book.{view_of};
-    ghost use Rattle.grants_base.specs.View.{IsLawful};
+impl RecordBook for PlainBook {
+    ghost contents = { λ book. book };
 
-    ghost shown = { λ view. view_of view.book.now view.place };
-
-    ghost asked = { λ view. recorded view.book.now.records };
-
-    #[tactic(auto, using(grants::proofs::SeenLaws::lawful_view))]
-    fn at(&self) -> Place {
-        // A book is sound, as its accessors say, and so its view is lawful.
-        let _tables = self.book.tables();
-        self.place
+    fn tables(&self) -> &[Creation] {
+        &self.tables
     }
 
-    fn covers(&self, table: Table) -> bool {
-        (table.0 as usize) < self.book.tables().len()
+    fn records(&self) -> &[Record] {
+        &self.records
     }
 
-    fn owner(&self, table: Table) -> User {
-        self.book.tables()[table.0 as usize].owner
+    fn next_to(&self, holder: Holder, from: usize) -> Option<usize> {
+        first_to(&self.records, &holder, from)
     }
 
-    fn slots(&self) -> usize {
-        self.book.records().len()
-    }
-
-    fn grant(&mut self, i: usize) -> Option<Grant> {
-        let record = &self.book.records()[i];
-        (record.grant.place < self.place).then_some(record.grant)
-    }
-
-    fn end(&mut self, i: usize) -> Option<Place> {
-        let record = &self.book.records()[i];
-        record
-            .end
-            .filter(|end| record.grant.place < self.place && *end < self.place)
-    }
-
-    fn next_to(
-        &mut self,
-        grantee: Grantee,
-        kind: Kind,
-        table: Table,
-        from: usize,
-    ) -> Option<usize> {
-        first_to(self.book.records(), &grantee, kind, table, from)
-    }
-
-    fn next_by(&mut self, user: User, kind: Kind, table: Table, from: usize) -> Option<usize> {
-        first_by(self.book.records(), user, kind, table, from)
+    fn next_by(&self, user: User, kind: Kind, table: Table, from: usize) -> Option<usize> {
+        first_by(&self.records, user, kind, table, from)
     }
 }

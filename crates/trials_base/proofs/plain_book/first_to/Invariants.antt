@@ -5,4 +5,4 @@ use Rattle.trials_base.proofs.plain_book.first_to.Given as goal
 
 -- no record from the first on passes
 abbrev pub invariant-loop-i : goal.invariant-loop-i
-invariant-loop-i l = (k : ℕ) → l.from ≤ k → k < l.i → passes_at (is_to l.grantee l.kind l.table) (recorded l.records) k ≡ false
+invariant-loop-i l = (k : ℕ) → l.from ≤ k → k < l.i → passes_at (is_to l.holder.grantee l.holder.kind l.holder.table) (recorded l.records) k ≡ false

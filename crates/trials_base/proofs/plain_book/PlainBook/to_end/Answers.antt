@@ -8,6 +8,6 @@ use Rattle.trials_base.proofs.plain_book.PlainBook.to_end.Goals as goal
 pub returns : goal.returns
 returns c = λ owners deeds shows below.
     let place = c.args.revocation.now.place in
-    let here = subst (λ (ds : List Deed). ShowsDeeds (view_of c.args.self.now place) owners ds) (deeds_below-whole place deeds below) (c.at-view.ensures.shows owners deeds shows) in
-    let there = subst (λ (book : Entries). ShowsDeeds (view_of book place) owners deeds) (sym c.at-view.ensures.book) here in
-    c.in_ok-ended.ensures.ended owners deeds (subst (λ (p : ℕ). ShowsDeeds (view_of c.at-view.result.book.now p) owners deeds) (sym c.at-view.ensures.place) there)
+    let here = subst (λ (ds : List Deed). ShowsDeeds (view_of c.args.self.now place) owners ds) (deeds_below-whole place deeds below) (c.at.ensures.shows owners deeds shows) in
+    let there = subst (λ (book : Entries). ShowsDeeds (view_of book place) owners deeds) (sym c.at.ensures.book) here in
+    c.in_ok-ended.ensures.ended owners deeds (subst (λ (p : ℕ). ShowsDeeds (view_of c.at.result.book.now p) owners deeds) (sym c.at.ensures.place) there)
