@@ -4,10 +4,10 @@ use crate::printing::put_part;
 use bohm_base::ArgumentFault;
 use command_line::{ProgramFault, Usage, WorkFault, ending, read_words};
 use std::alloc::Global;
-use trials_base::TrialFault;
+use trials_base::Attempt;
 
 /// What the words of a command line ask for, or with which status they end the program. They are parted by single spaces.
-pub fn read_command(alloc: Global, line: &str) -> Result<String, TrialFault> {
+pub fn read_command(alloc: Global, line: &str) -> Attempt<String> {
     let words = line.split(' ').collect::<Vec<&str>>(alloc)?;
     match read_words(alloc, words.as_slice()) {
         Ok(command) => Ok(format!(in alloc; "{command:?}")?),
@@ -20,7 +20,7 @@ pub fn read_command(alloc: Global, line: &str) -> Result<String, TrialFault> {
 }
 
 /// The status and the line of each fault but those of wrong words.
-pub fn endings(alloc: Global) -> Result<String, TrialFault> {
+pub fn endings(alloc: Global) -> Attempt<String> {
     let mut outcome = String::new(alloc);
     for fault in [
         ProgramFault::Arguments(ArgumentFault::NotUtf8),

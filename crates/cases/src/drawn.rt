@@ -8,7 +8,7 @@ use std::alloc::{AllocError, Global};
 use std::rt::Files;
 use std::sync::Wait;
 use std::thread::Threads;
-use trials_base::{TrialFault, read_file};
+use trials_base::{Attempt, read_file};
 
 /// What is changed of the lines that are drawn.
 #[derive(Clone, Copy, Debug, PartialEq, Eq)]
@@ -190,16 +190,32 @@ fn log_of(
 impl<R: Threads + Wait + Sync> Runs<'_, R> {
     /// Ends a log with these lines, appends its report by the run in order to those before it, and returns by how many of the runs it has
     /// that.
-    fn compare(
-        &self,
-        log: &mut Vec<u8>,
-        last: &[u8],
-        reports: &mut Vec<u8>,
-    ) -> Result<usize, TrialFault> {
+    fn compare(&self, log: &mut Vec<u8>, last: &[u8], reports: &mut Vec<u8>) -> Attempt<usize> {
         log.extend_from_slice(last)?;
         let wanted = self.text(Run::in_order(), log.as_slice())?;
         reports.extend_from_slice(wanted.as_slice())?;
         self.right(log.as_slice(), wanted.as_slice())
+    }
+
+    /// Draws the logs of a case from the lines of a text, ends each with these lines, and appends their reports by the run in order.
+    /// Returns by how many runs, of all logs together, they have these.
+    fn compare_drawn(
+        &self,
+        case: &Drawn<'_>,
+        text: &[u8],
+        last: &[u8],
+        reports: &mut Vec<u8>,
+    ) -> Attempt<usize> {
+        let (heading, text) = split_heading(text.strip_suffix(b"\n".as_slice()).unwrap_or(b""));
+        let lines = text.split(|byte| *byte == b'\n');
+        let lines = lines.collect::<Vec<&[u8]>>(self.alloc)?;
+        let mut generator = Generator::new(case.seed);
+        let mut same: usize = 0;
+        for _ in 0..case.logs {
+            let mut log = log_of(self.alloc, &mut generator, case, heading, lines.as_slice())?;
+            same = same.saturating_add(self.compare(&mut log, last, reports)?);
+        }
+        Ok(same)
     }
 }
 
@@ -209,37 +225,30 @@ fn count_word(text: &[u8], word: &[u8]) -> usize {
     words.filter(|found| *found == word).count()
 }
 
+/// Appends how often each ending is in reports.
+fn put_endings(alloc: Global, outcome: &mut String, reports: &[u8]) -> Result<(), AllocError> {
+    for word in ENDINGS.split(' ') {
+        let found = count_word(reports, word.as_bytes());
+        let part = format!(in alloc; "{found} of {word}")?;
+        put_part(outcome, part.as_str())?;
+    }
+    Ok(())
+}
+
 /// How many runs of drawn logs write the report of the run in order, and how often each ending is in these.
 pub fn drawn_reports<R: Files + Threads + Wait + Sync>(
     rt: &R,
     alloc: Global,
     case: &Drawn<'_>,
-) -> Result<String, TrialFault> {
+) -> Attempt<String> {
     let list = case.runs.as_slice();
     let runs = Runs { rt, alloc, list };
     let last = case.last.bytes(rt, alloc)?;
     let text = read_file(rt, alloc, case.path)?;
-    let text = text
-        .as_slice()
-        .strip_suffix(b"\n".as_slice())
-        .unwrap_or(b"");
-    let (heading, text) = split_heading(text);
-    let lines = text
-        .split(|byte| *byte == b'\n')
-        .collect::<Vec<&[u8]>>(alloc)?;
-    let mut generator = Generator::new(case.seed);
     let mut reports = Vec::new(alloc);
-    let mut same: usize = 0;
-    for _ in 0..case.logs {
-        let mut log = log_of(alloc, &mut generator, case, heading, lines.as_slice())?;
-        same = same.saturating_add(runs.compare(&mut log, last.as_slice(), &mut reports)?);
-    }
-    let (logs, runs) = (case.logs, case.runs.len());
+    let same = runs.compare_drawn(case, text.as_slice(), last.as_slice(), &mut reports)?;
+    let (logs, runs) = (case.logs, list.len());
     let mut outcome = format!(in alloc; "{logs} logs by {runs} runs, {same} same reports")?;
-    for word in ENDINGS.split(' ') {
-        let found = count_word(reports.as_slice(), word.as_bytes());
-        let part = format!(in alloc; "{found} of {word}")?;
-        put_part(&mut outcome, part.as_str())?;
-    }
+    put_endings(alloc, &mut outcome, reports.as_slice())?;
     Ok(outcome)
 }

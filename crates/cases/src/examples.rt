@@ -5,14 +5,14 @@ use std::alloc::Global;
 use std::rt::Files;
 use std::sync::Wait;
 use std::thread::Threads;
-use trials_base::{TrialFault, read_file};
+use trials_base::{Attempt, read_file};
 
 /// How many examples a file has, and how many of them have the report that is shown by the run in order and by the slow one.
 pub fn shown_examples<R: Files + Threads + Wait + Sync>(
     rt: &R,
     alloc: Global,
     path: &str,
-) -> Result<String, TrialFault> {
+) -> Attempt<String> {
     let text = read_file(rt, alloc, path)?;
     let list = &[Run::in_order(), Run::fixed(Way::Slow)];
     let runs = Runs { rt, alloc, list };

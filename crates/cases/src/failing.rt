@@ -7,7 +7,7 @@ use line_io::{Counted, MemoryReader, MemoryWriter};
 use std::alloc::{AllocError, Global};
 use std::sync::Wait;
 use std::thread::Threads;
-use trials_base::TrialFault;
+use trials_base::{Attempt, TrialFault};
 
 /// How many tries there are beside those that have to fail.
 const TRIES: u64 = 200;
@@ -48,13 +48,7 @@ struct Counts {
 impl Counts {
     /// Counts a run: it has to write the wanted text where nothing failed, and else to end with a fault of what failed, once, and with a
     /// beginning of the text written.
-    fn add(
-        &mut self,
-        ended: Result<(), TrialFault>,
-        failures: (u64, u64),
-        written: &[u8],
-        wanted: &[u8],
-    ) {
+    fn add(&mut self, ended: Attempt<()>, failures: (u64, u64), written: &[u8], wanted: &[u8]) {
         let is_right = match (ended, failures) {
             (Ok(()), (0, 0)) => written == wanted,
             (Err(fault), (1, 0)) => is_read(fault) && wanted.starts_with(written),
@@ -113,13 +107,7 @@ fn writer_of(alloc: Global, failing: Failing, number: u64) -> MemoryWriter {
 impl<R: Threads + Wait + Sync> Runs<'_, R> {
     /// Counts how a run ends where the reader fails at each of its reads, or the writer at each of its writes, and then at none; or at its
     /// end.
-    fn count(
-        &self,
-        run: Run,
-        log: &[u8],
-        failing: Failing,
-        counts: &mut Counts,
-    ) -> Result<(), TrialFault> {
+    fn count(&self, run: Run, log: &[u8], failing: Failing, counts: &mut Counts) -> Attempt<()> {
         let wanted = self.text(run, log)?;
         let tries = match failing {
             Failing::Reads => (log.len() as u64).saturating_add(TRIES),
@@ -137,7 +125,7 @@ impl<R: Threads + Wait + Sync> Runs<'_, R> {
     }
 
     /// How the runs of a log end where this fails.
-    pub fn failing(&self, log: &[u8], failing: Failing) -> Result<String, TrialFault> {
+    pub fn failing(&self, log: &[u8], failing: Failing) -> Attempt<String> {
         let mut counts = Counts::default();
         for run in self.list {
             self.count(*run, log, failing, &mut counts)?;

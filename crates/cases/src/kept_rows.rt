@@ -7,16 +7,11 @@ use line_io::Counted;
 use model_base::{HashSeed, RowNumber};
 use std::sync::Wait;
 use std::thread::Threads;
-use trials_base::{TrialFault, row_text};
+use trials_base::{Attempt, TrialFault, row_text};
 
 impl<R: Threads + Wait + Sync> Runs<'_, R> {
     /// Runs a log in batches, and returns the mark of the engine then, and what it says of a row before each place.
-    fn rows_by(
-        &self,
-        settings: &Settings,
-        log: &[u8],
-        row: RowNumber,
-    ) -> Result<String, TrialFault> {
+    fn rows_by(&self, settings: &Settings, log: &[u8], row: RowNumber) -> Attempt<String> {
         let alloc = self.alloc;
         let mut reader = Counted::new(log);
         let mut report = Counted::new(Vec::new(alloc));
@@ -34,7 +29,7 @@ impl<R: Threads + Wait + Sync> Runs<'_, R> {
 
     /// A line for each run of a log, which is one in batches that are kept: the mark of the engine that it returns, and a row before each
     /// place.
-    pub fn kept_rows(&self, log: &[u8], row: RowNumber) -> Result<String, TrialFault> {
+    pub fn kept_rows(&self, log: &[u8], row: RowNumber) -> Attempt<String> {
         let mut outcome = format!(in self.alloc; "{} engines", self.list.len())?;
         for run in self.list {
             let Way::Kept(settings) = &run.way else {

@@ -2,7 +2,7 @@
 
 use std::alloc::{AllocError, Global};
 use std::rt::Files;
-use trials_base::{TrialFault, read_file};
+use trials_base::{Attempt, TrialFault, read_file};
 
 /// A log.
 #[derive(Clone, Copy, Debug, PartialEq, Eq)]
@@ -25,7 +25,7 @@ pub struct Shape {
 }
 
 /// The shape of this name.
-pub fn shape_of(name: &str) -> Result<Shape, TrialFault> {
+pub fn shape_of(name: &str) -> Attempt<Shape> {
     let (before, first, part, after) = match name {
         // A line of letters, and then a good one.
         "letters" => ("", "", "a", "\nalice CREATE t 1\n"),
@@ -92,7 +92,7 @@ fn made_log(alloc: Global, shape: Shape, count: u32, rows: u32) -> Result<Vec<u8
 
 impl Log<'_> {
     /// The bytes of the log.
-    pub fn bytes<R: Files>(self, rt: &R, alloc: Global) -> Result<Vec<u8>, TrialFault> {
+    pub fn bytes<R: Files>(self, rt: &R, alloc: Global) -> Attempt<Vec<u8>> {
         match self {
             Log::Worked(name) => {
                 let path = format!(in alloc; "{name}.log")?;
@@ -103,7 +103,7 @@ impl Log<'_> {
     }
 
     /// The report that was worked out for the log: the file NAME.report.
-    pub fn report<R: Files>(self, rt: &R, alloc: Global) -> Result<Vec<u8>, TrialFault> {
+    pub fn report<R: Files>(self, rt: &R, alloc: Global) -> Attempt<Vec<u8>> {
         let Log::Worked(name) = self else {
             return Err(TrialFault::NoSuchLog);
         };

@@ -23,14 +23,14 @@ use std::process::ExitCode;
 use std::rt::{Env, Files};
 use std::sync::Wait;
 use std::thread::Threads;
-use trials_base::{TrialFault, read_file, text_of};
+use trials_base::{Attempt, read_file, text_of};
 use verbs::outcome_of;
 
 /// Prints each case of a file with what it results in, or why it has no outcome.
 fn print_file<R: Files + Threads + Wait + Print + AllocGlobal + Sync>(
     rt: &R,
     path: &str,
-) -> Result<(), TrialFault> {
+) -> Attempt<()> {
     let alloc = rt.alloc();
     let bytes = read_file(rt, alloc, path)?;
     for line in text_of(bytes.as_slice())?.split('\n') {
@@ -46,9 +46,7 @@ fn print_file<R: Files + Threads + Wait + Print + AllocGlobal + Sync>(
 }
 
 /// Runs the cases of each file that the command line names. A fault of one doesn't keep the others from being run.
-fn tell<R: Env + Files + Threads + Wait + Print + AllocGlobal + Sync>(
-    rt: &R,
-) -> Result<(), TrialFault> {
+fn tell<R: Env + Files + Threads + Wait + Print + AllocGlobal + Sync>(rt: &R) -> Attempt<()> {
     let paths = arguments(rt)?;
     let mut last = Ok(());
     for path in paths.iter().skip(1) {

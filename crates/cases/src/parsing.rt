@@ -7,20 +7,20 @@ use batched_text::{ReadingAhead, Settings};
 use model_base::Place;
 use std::alloc::Global;
 use std::rt::Files;
-use trials_base::{TrialFault, read_file, text_of};
+use trials_base::{Attempt, TrialFault, read_file, text_of};
 
 /// A number.
-pub fn parse_number(word: &str) -> Result<u64, TrialFault> {
+pub fn parse_number(word: &str) -> Attempt<u64> {
     word.parse::<u64>().map_err(|_| TrialFault::NotANumber)
 }
 
 /// A number of 32 bits.
-pub fn parse_count(word: &str) -> Result<u32, TrialFault> {
+pub fn parse_count(word: &str) -> Attempt<u32> {
     word.parse::<u32>().map_err(|_| TrialFault::NotANumber)
 }
 
 /// The settings of a run in batches: workers, partitions, places of a batch, and batches that are kept.
-fn parse_settings(words: &[&str]) -> Result<Settings, TrialFault> {
+fn parse_settings(words: &[&str]) -> Attempt<Settings> {
     let [workers, partitions, batch, keep] = words else {
         return Err(TrialFault::Words);
     };
@@ -33,7 +33,7 @@ fn parse_settings(words: &[&str]) -> Result<Settings, TrialFault> {
 }
 
 /// A question: a place, and `check` where the answer is to be checked.
-fn parse_question(words: &[&str]) -> Result<Question, TrialFault> {
+fn parse_question(words: &[&str]) -> Attempt<Question> {
     match words {
         [place] => Ok(Question {
             place: parse_number(place)?,
@@ -48,7 +48,7 @@ fn parse_question(words: &[&str]) -> Result<Question, TrialFault> {
 }
 
 /// The place before which a picture is made, or none.
-fn parse_limit(words: &[&str]) -> Result<Option<Place>, TrialFault> {
+fn parse_limit(words: &[&str]) -> Attempt<Option<Place>> {
     match words {
         [] => Ok(None),
         [place] => Ok(Some(parse_number(place)?)),
@@ -57,7 +57,7 @@ fn parse_limit(words: &[&str]) -> Result<Option<Place>, TrialFault> {
 }
 
 /// How lines are read ahead: the threads, and the bytes of a stretch and of a piece.
-fn parse_ahead(words: &[&str]) -> Result<ReadingAhead, TrialFault> {
+fn parse_ahead(words: &[&str]) -> Attempt<ReadingAhead> {
     let [threads, stretch, piece] = words else {
         return Err(TrialFault::Words);
     };
@@ -70,7 +70,7 @@ fn parse_ahead(words: &[&str]) -> Result<ReadingAhead, TrialFault> {
 }
 
 /// What makes the text of a run: its name, and its numbers.
-fn parse_way(words: &[&str]) -> Result<Way, TrialFault> {
+fn parse_way(words: &[&str]) -> Attempt<Way> {
     let [name, words @ ..] = words else {
         return Err(TrialFault::NoSuchRun);
     };
@@ -87,7 +87,7 @@ fn parse_way(words: &[&str]) -> Result<Way, TrialFault> {
 }
 
 /// A run: a way, its words parted by colons, after `seeded:BYTE:` if its seed is drawn from a source that repeats this byte.
-fn parse_run(alloc: Global, word: &str) -> Result<Run, TrialFault> {
+fn parse_run(alloc: Global, word: &str) -> Attempt<Run> {
     let (byte, way) = match word.strip_prefix("seeded:") {
         Some(seeded) => {
             let (byte, way) = seeded.split_once(':').ok_or(TrialFault::Words)?;
@@ -102,12 +102,7 @@ fn parse_run(alloc: Global, word: &str) -> Result<Run, TrialFault> {
 }
 
 /// Appends the runs that a word names: a run, or those after this word in a line of `named`.
-fn push_runs(
-    alloc: Global,
-    runs: &mut Vec<Run>,
-    word: &str,
-    named: &str,
-) -> Result<(), TrialFault> {
+fn push_runs(alloc: Global, runs: &mut Vec<Run>, word: &str, named: &str) -> Attempt<()> {
     for line in named.split('\n') {
         let (name, words) = line.split_once(' ').unwrap_or((line, ""));
         if name == word {
@@ -122,11 +117,7 @@ fn push_runs(
 }
 
 /// The runs that words name, one at least, each a run or a list of runs of the file `named.runs`.
-pub fn parse_run_list<R: Files>(
-    rt: &R,
-    alloc: Global,
-    words: &[&str],
-) -> Result<Vec<Run>, TrialFault> {
+pub fn parse_run_list<R: Files>(rt: &R, alloc: Global, words: &[&str]) -> Attempt<Vec<Run>> {
     if words.is_empty() {
         return Err(TrialFault::Words);
     }
@@ -139,7 +130,7 @@ pub fn parse_run_list<R: Files>(
 }
 
 /// A log: the name of a file without `.log`, or one that is made of a number.
-pub fn parse_log(word: &str) -> Result<Log<'_>, TrialFault> {
+pub fn parse_log(word: &str) -> Attempt<Log<'_>> {
     if word.is_empty() {
         return Err(TrialFault::NoSuchLog);
     }

@@ -6,7 +6,7 @@ use line_io::Counted;
 use std::alloc::AllocError;
 use std::sync::Wait;
 use std::thread::Threads;
-use trials_base::{TrialFault, text_of};
+use trials_base::{Attempt, text_of};
 
 /// What is said of a run.
 #[derive(Clone, Copy, Debug, PartialEq, Eq)]
@@ -29,7 +29,7 @@ pub fn put_part(outcome: &mut String, part: &str) -> Result<(), AllocError> {
 
 impl<R: Threads + Wait + Sync> Runs<'_, R> {
     /// The text that a run writes of a log, without its last line feed, after a line of how long it is.
-    fn printed(&self, run: Run, log: &[u8]) -> Result<String, TrialFault> {
+    fn printed(&self, run: Run, log: &[u8]) -> Attempt<String> {
         let text = self.text(run, log)?;
         let (bytes, text) = (text.len(), text_of(text.as_slice())?);
         let text = text.strip_suffix("\n").unwrap_or(text);
@@ -37,7 +37,7 @@ impl<R: Threads + Wait + Sync> Runs<'_, R> {
     }
 
     /// How a run of a log ends, and how much it reads and writes.
-    fn ended(&self, run: Run, log: &[u8]) -> Result<String, TrialFault> {
+    fn ended(&self, run: Run, log: &[u8]) -> Attempt<String> {
         let mut log = Counted::new(log);
         let mut text = Counted::new(Vec::new(self.alloc));
         let ended = match run.execute(self.rt, self.alloc, &mut log, &mut text) {
@@ -49,7 +49,7 @@ impl<R: Threads + Wait + Sync> Runs<'_, R> {
     }
 
     /// What is said of each run of a log.
-    pub fn told(&self, log: &[u8], telling: Telling) -> Result<String, TrialFault> {
+    pub fn told(&self, log: &[u8], telling: Telling) -> Attempt<String> {
         let mut outcome = String::new(self.alloc);
         for run in self.list {
             let part = match telling {

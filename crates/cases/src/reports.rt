@@ -5,7 +5,7 @@ use crate::tail::feeds;
 use std::alloc::{AllocError, Global};
 use std::sync::Wait;
 use std::thread::Threads;
-use trials_base::TrialFault;
+use trials_base::Attempt;
 
 /// The first line of a log of version 2.
 const HEADING: &[u8] = b"BOHM 2";
@@ -64,13 +64,13 @@ fn variant_of(
 
 impl<R: Threads + Wait + Sync> Runs<'_, R> {
     /// By how many of the runs a log has the report that was worked out.
-    pub fn worked_reports(&self, log: &[u8], wanted: &[u8]) -> Result<String, TrialFault> {
+    pub fn worked_reports(&self, log: &[u8], wanted: &[u8]) -> Attempt<String> {
         let (right, count) = (self.right(log, wanted)?, self.list.len());
         Ok(format!(in self.alloc; "as worked by {right} of {count} runs")?)
     }
 
     /// How long the report of the run in order is, how it ends, and how many of the runs write the same.
-    pub fn same_reports(&self, log: &[u8]) -> Result<String, TrialFault> {
+    pub fn same_reports(&self, log: &[u8]) -> Attempt<String> {
         let report = self.text(Run::in_order(), log)?;
         let report = report.as_slice();
         let (same, count) = (self.right(log, report)?, self.list.len());
@@ -82,7 +82,7 @@ impl<R: Threads + Wait + Sync> Runs<'_, R> {
     }
 
     /// Whether the report of a log by the run in order has a line for each of its lines but a heading, and is that of the runs too.
-    fn is_reported(&self, log: &[u8]) -> Result<bool, TrialFault> {
+    fn is_reported(&self, log: &[u8]) -> Attempt<bool> {
         let report = self.text(Run::in_order(), log)?;
         let same = self.right(log, report.as_slice())?;
         let lines = line_count(log).saturating_sub(usize::from(has_heading(log)));
@@ -90,7 +90,7 @@ impl<R: Threads + Wait + Sync> Runs<'_, R> {
     }
 
     /// For how many of the variants of a log all runs write one report with as many lines.
-    pub fn variants(&self, log: &[u8], variants: Variants) -> Result<String, TrialFault> {
+    pub fn variants(&self, log: &[u8], variants: Variants) -> Attempt<String> {
         let (count, every) = match variants {
             Variants::Beginnings => (log.len() + 1, 1),
             Variants::Changes(every) => (log.len().saturating_mul(OTHERS), every.max(1)),

@@ -11,7 +11,7 @@ use std::io::{Read, Write};
 use std::random::RandomSource;
 use std::sync::Wait;
 use std::thread::Threads;
-use trials_base::TrialFault;
+use trials_base::Attempt;
 
 /// A source of which each byte is the same, so that the seed that is drawn from it is the same at each run.
 #[derive(Clone, Copy)]
@@ -60,7 +60,7 @@ impl Run {
     }
 
     /// The seed of its maps.
-    fn seed(self) -> Result<HashSeed, TrialFault> {
+    fn seed(self) -> Attempt<HashSeed> {
         match self.byte {
             Some(byte) => Ok(HashSeed::drawn(&Repeating(byte))?),
             None => Ok(HashSeed::fixed()),
@@ -74,7 +74,7 @@ impl Run {
         alloc: Global,
         log: &mut Counted<R>,
         text: &mut Counted<W>,
-    ) -> Result<(), TrialFault> {
+    ) -> Attempt<()> {
         let seed = self.seed()?;
         match self.way {
             Way::InOrder(ahead) => report_in_order(rt, alloc, log, text, ahead, seed)?,
@@ -96,7 +96,7 @@ fn run_kept<T: Threads + Wait + Sync, R: Read, W: Write>(
     text: &mut Counted<W>,
     settings: &Settings,
     seed: HashSeed,
-) -> Result<(), TrialFault> {
+) -> Attempt<()> {
     let _engine = run_text(rt, alloc, log, text, settings, seed)?;
     Ok(())
 }
@@ -111,14 +111,14 @@ pub struct Runs<'a, R> {
 
 impl<R: Threads + Wait + Sync> Runs<'_, R> {
     /// The text that a run writes of a log.
-    pub fn text(&self, run: Run, log: &[u8]) -> Result<Vec<u8>, TrialFault> {
+    pub fn text(&self, run: Run, log: &[u8]) -> Attempt<Vec<u8>> {
         let mut text = Counted::new(Vec::new(self.alloc));
         run.execute(self.rt, self.alloc, &mut Counted::new(log), &mut text)?;
         Ok(text.inner)
     }
 
     /// By how many of the runs a log has this text.
-    pub fn right(&self, log: &[u8], wanted: &[u8]) -> Result<usize, TrialFault> {
+    pub fn right(&self, log: &[u8], wanted: &[u8]) -> Attempt<usize> {
         let mut right: usize = 0;
         for run in self.list {
             if self.text(*run, log)?.as_slice() == wanted {

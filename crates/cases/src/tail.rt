@@ -9,7 +9,7 @@ use std::io;
 use std::io::{Read, Write};
 use std::sync::Wait;
 use std::thread::Threads;
-use trials_base::TrialFault;
+use trials_base::Attempt;
 
 /// How much a read gives.
 #[derive(Clone, Copy, Debug, PartialEq, Eq)]
@@ -104,7 +104,7 @@ impl Write for Report<'_> {
 impl<R: Threads + Wait + Sync> Runs<'_, R> {
     /// Runs a log that comes so, and says how many reads and writes that took, how many reads were late, and whether the report is that of
     /// the run in order.
-    pub fn tailed(&self, run: Run, log: &[u8], bits: Bits) -> Result<String, TrialFault> {
+    pub fn tailed(&self, run: Run, log: &[u8], bits: Bits) -> Attempt<String> {
         let wanted = self.text(Run::in_order(), log)?;
         let reported = Cell::new(0);
         let mut tail = Counted::new(Tail {

@@ -21,6 +21,7 @@ use crate::command::{endings, read_command};
 use crate::drawn::{Change, Drawn, drawn_reports};
 use crate::examples::shown_examples;
 use crate::failing::Failing;
+use crate::logs::Log;
 use crate::parsing::{parse_count, parse_log, parse_number, parse_run_list};
 use crate::printing::Telling;
 use crate::reports::Variants;
@@ -30,7 +31,7 @@ use std::alloc::Global;
 use std::rt::Files;
 use std::sync::Wait;
 use std::thread::Threads;
-use trials_base::TrialFault;
+use trials_base::{Attempt, TrialFault};
 
 /// How logs are drawn, what is changed of their lines then, and their runs.
 fn parse_drawn<'a, R: Files>(
@@ -38,7 +39,7 @@ fn parse_drawn<'a, R: Files>(
     alloc: Global,
     words: &[&'a str],
     change: Change,
-) -> Result<Drawn<'a>, TrialFault> {
+) -> Attempt<Drawn<'a>> {
     let [seed, logs, lines, path, last, runs @ ..] = words else {
         return Err(TrialFault::Words);
     };
@@ -53,6 +54,33 @@ fn parse_drawn<'a, R: Files>(
     })
 }
 
+impl<R: Files + Threads + Wait + Sync> Runs<'_, R> {
+    /// What a case of a log with these bytes results in.
+    fn outcome(&self, verb: &str, first: &str, named: Log<'_>, log: &[u8]) -> Attempt<String> {
+        match (verb, first) {
+            ("report", _) => {
+                let report = named.report(self.rt, self.alloc)?;
+                self.worked_reports(log, report.as_slice())
+            }
+            ("same", _) => self.same_reports(log),
+            ("beginnings", _) => self.variants(log, Variants::Beginnings),
+            ("changes", every) => {
+                self.variants(log, Variants::Changes(parse_number(every)? as usize))
+            }
+            ("rows", row) => self.kept_rows(log, parse_count(row)?),
+            ("print", _) => self.told(log, Telling::Text),
+            ("ends", _) => self.told(log, Telling::End),
+            ("fail", "reads") => self.failing(log, Failing::Reads),
+            ("fail", "writes") => self.failing(log, Failing::Writes),
+            ("fail", "ends") => self.failing(log, Failing::Ends),
+            ("tail", "lines") => self.told(log, Telling::Tail(Bits::Lines)),
+            ("tail", "halves") => self.told(log, Telling::Tail(Bits::Halves)),
+            ("tail", "pieces") => self.told(log, Telling::Tail(Bits::Pieces)),
+            _ => Err(TrialFault::Words),
+        }
+    }
+}
+
 /// What a case results in that has a log and runs of it, after this word or none.
 fn runs_outcome<R: Files + Threads + Wait + Sync>(
     rt: &R,
@@ -60,31 +88,16 @@ fn runs_outcome<R: Files + Threads + Wait + Sync>(
     verb: &str,
     first: &str,
     words: &[&str],
-) -> Result<String, TrialFault> {
+) -> Attempt<String> {
     let [log, words @ ..] = words else {
         return Err(TrialFault::Words);
     };
     let named = parse_log(log)?;
     let list = parse_run_list(rt, alloc, words)?;
     let bytes = named.bytes(rt, alloc)?;
-    let (list, log) = (list.as_slice(), bytes.as_slice());
+    let list = list.as_slice();
     let runs = Runs { rt, alloc, list };
-    match (verb, first) {
-        ("report", _) => runs.worked_reports(log, named.report(rt, alloc)?.as_slice()),
-        ("same", _) => runs.same_reports(log),
-        ("beginnings", _) => runs.variants(log, Variants::Beginnings),
-        ("changes", every) => runs.variants(log, Variants::Changes(parse_number(every)? as usize)),
-        ("rows", row) => runs.kept_rows(log, parse_count(row)?),
-        ("print", _) => runs.told(log, Telling::Text),
-        ("ends", _) => runs.told(log, Telling::End),
-        ("fail", "reads") => runs.failing(log, Failing::Reads),
-        ("fail", "writes") => runs.failing(log, Failing::Writes),
-        ("fail", "ends") => runs.failing(log, Failing::Ends),
-        ("tail", "lines") => runs.told(log, Telling::Tail(Bits::Lines)),
-        ("tail", "halves") => runs.told(log, Telling::Tail(Bits::Halves)),
-        ("tail", "pieces") => runs.told(log, Telling::Tail(Bits::Pieces)),
-        _ => Err(TrialFault::Words),
-    }
+    runs.outcome(verb, first, named, bytes.as_slice())
 }
 
 /// What a case of words results in.
@@ -93,7 +106,7 @@ fn words_outcome<R: Files + Threads + Wait + Sync>(
     alloc: Global,
     verb: &str,
     words: &[&str],
-) -> Result<String, TrialFault> {
+) -> Attempt<String> {
     match verb {
         "report" | "same" | "beginnings" | "print" | "ends" => {
             runs_outcome(rt, alloc, verb, "", words)
@@ -116,7 +129,7 @@ pub fn outcome_of<R: Files + Threads + Wait + Sync>(
     rt: &R,
     alloc: Global,
     line: &str,
-) -> Result<String, TrialFault> {
+) -> Attempt<String> {
     let (verb, rest) = line.split_once(' ').unwrap_or((line, ""));
     match verb {
         "words" => read_command(alloc, rest),

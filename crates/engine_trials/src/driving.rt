@@ -9,11 +9,11 @@ use model_base::Place;
 use std::alloc::{AllocError, Global};
 use std::sync::Wait;
 use std::thread::Threads;
-use trials_base::{TrialFault, count_of, number_of, row_text};
+use trials_base::{Attempt, TrialFault, count_of, number_of, row_text};
 use workers::NoGate;
 
 /// Takes this many readers of a row into the log.
-fn push_readers(alloc: Global, engine: &mut Engine, count: u64) -> Result<(), TrialFault> {
+fn push_readers(alloc: Global, engine: &mut Engine, count: u64) -> Attempt<()> {
     for _ in 0..count {
         push_line(alloc, engine, "alice RUN t:1:R")?;
     }
@@ -21,7 +21,7 @@ fn push_readers(alloc: Global, engine: &mut Engine, count: u64) -> Result<(), Tr
 }
 
 /// Takes this many rows from one on into the log, each of which is inserted and deleted again.
-fn push_rows(alloc: Global, engine: &mut Engine, first: u64, count: u64) -> Result<(), TrialFault> {
+fn push_rows(alloc: Global, engine: &mut Engine, first: u64, count: u64) -> Attempt<()> {
     for row in first..first.saturating_add(count) {
         let line = format!(in alloc; "alice RUN t:{row}:I | CONST 0 1 | INSERT t {row} 0")?;
         push_line(alloc, engine, line.as_str())?;
@@ -61,7 +61,7 @@ fn run_text<R: Threads + Wait + Sync>(
     alloc: Global,
     engine: &mut Engine,
     words: &[&str],
-) -> Result<String, TrialFault> {
+) -> Attempt<String> {
     let range = number_of(words, 0)?..number_of(words, 1)?;
     let (workers, partitions) = (number_of(words, 2)? as usize, number_of(words, 3)? as usize);
     let ended = engine.run_batch(rt, alloc, range, crew_of(workers, partitions), &NoGate);
@@ -70,12 +70,7 @@ fn run_text<R: Threads + Wait + Sync>(
 }
 
 /// Asks an engine: `row ROW PLACE`, of the first table; `outcome PLACE`; `explain PLACE`; `handed PLACE READ|OPTION SHOWN..`.
-fn answer(
-    alloc: Global,
-    engine: &Engine,
-    verb: &str,
-    words: &[&str],
-) -> Result<String, TrialFault> {
+fn answer(alloc: Global, engine: &Engine, verb: &str, words: &[&str]) -> Attempt<String> {
     let [_, rest @ ..] = words else {
         return Err(TrialFault::NotText);
     };
@@ -89,6 +84,16 @@ fn answer(
     }
 }
 
+/// Makes an engine `new`, or takes into its log `readers COUNT` or `rows FIRST COUNT`, and says how many places it has.
+fn change(alloc: Global, engine: &mut Engine, verb: &str, words: &[&str]) -> Attempt<String> {
+    match verb {
+        "new" => *engine = Engine::new(alloc),
+        "readers" => push_readers(alloc, engine, number_of(words, 0)?)?,
+        _ => push_rows(alloc, engine, number_of(words, 0)?, number_of(words, 1)?)?,
+    }
+    Ok(format!(in alloc; "{} places", engine.log().len())?)
+}
+
 /// Makes a case on an engine, and says what it results in: `new`; `push LINE`; `readers COUNT`; `rows FIRST COUNT`;
 /// `run START END WORKERS PARTITIONS`; `trim MARK`; `sweep`; `forget`; or a question.
 pub fn outcome<R: Threads + Wait + Sync>(
@@ -97,23 +102,23 @@ pub fn outcome<R: Threads + Wait + Sync>(
     engine: &mut Engine,
     line: &str,
     words: &[&str],
-) -> Result<String, TrialFault> {
+) -> Attempt<String> {
     let [verb, words @ ..] = words else {
         return Err(TrialFault::NotText);
     };
     match *verb {
-        "new" => *engine = Engine::new(alloc),
         "push" => {
             let place = push_line(alloc, engine, line.strip_prefix("push ").unwrap_or(""))?;
-            return Ok(format!(in alloc; "place {place}")?);
+            Ok(format!(in alloc; "place {place}")?)
         }
-        "readers" => push_readers(alloc, engine, number_of(words, 0)?)?,
-        "rows" => push_rows(alloc, engine, number_of(words, 0)?, number_of(words, 1)?)?,
-        "run" => return run_text(rt, alloc, engine, words),
-        "trim" => return Ok(format!(in alloc; "{:?}", engine.trim(number_of(words, 0)?))?),
-        "sweep" => return Ok(format!(in alloc; "{}", engine.sweep())?),
-        "forget" => engine.forget(),
-        _ => return answer(alloc, engine, verb, words),
+        "run" => run_text(rt, alloc, engine, words),
+        "trim" => Ok(format!(in alloc; "{:?}", engine.trim(number_of(words, 0)?))?),
+        "sweep" => Ok(format!(in alloc; "{}", engine.sweep())?),
+        "forget" => {
+            engine.forget();
+            Ok(format!(in alloc; "{} places", engine.log().len())?)
+        }
+        "new" | "readers" | "rows" => change(alloc, engine, verb, words),
+        verb => answer(alloc, engine, verb, words),
     }
-    Ok(format!(in alloc; "{} places", engine.log().len())?)
 }

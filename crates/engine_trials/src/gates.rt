@@ -8,7 +8,7 @@ use std::sync::Wait;
 use std::sync::atomic::{AtomicBool, AtomicUsize, Ordering};
 use std::thread;
 use std::thread::Threads;
-use trials_base::TrialFault;
+use trials_base::Attempt;
 use workers::{Gate, NoGate};
 
 /// How often a gate looks whether a place is done, before it gives up.
@@ -95,11 +95,7 @@ impl Gate for Watch {
 }
 
 /// Takes two tables, finished, and a statement on each.
-fn begin<R: Threads + Wait + Sync>(
-    rt: &R,
-    alloc: Global,
-    engine: &mut Engine,
-) -> Result<(), TrialFault> {
+fn begin<R: Threads + Wait + Sync>(rt: &R, alloc: Global, engine: &mut Engine) -> Attempt<()> {
     let lines = [
         "alice CREATE a 1",
         "bob CREATE b 1",
@@ -121,7 +117,7 @@ fn print_gated<R: Threads + Wait + Print + Sync>(
     held: Held,
     awaited: Place,
     crew: Crew,
-) -> Result<(), TrialFault> {
+) -> Attempt<()> {
     let mut engine = Engine::new(alloc);
     begin(rt, alloc, &mut engine)?;
     let gate = Watch::new(held, awaited);
@@ -137,10 +133,7 @@ fn print_gated<R: Threads + Wait + Print + Sync>(
 }
 
 /// Tells of gates that hold one of two workers back, and of one that doesn't.
-pub fn print_gates<R: Threads + Wait + Print + Sync>(
-    rt: &R,
-    alloc: Global,
-) -> Result<(), TrialFault> {
+pub fn print_gates<R: Threads + Wait + Print + Sync>(rt: &R, alloc: Global) -> Attempt<()> {
     for (who, held, awaited) in [
         ("2 waits for 3", Held::Asker(2), 3),
         ("3 waits for 2", Held::Asker(3), 2),

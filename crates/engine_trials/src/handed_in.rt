@@ -4,10 +4,10 @@ use engine::Engine;
 use explain::{Explanation, Line, Shown, check};
 use model_base::{Items, Kind, Need, Place, Position, RecordName, Table};
 use std::alloc::Global;
-use trials_base::{TrialFault, number_of};
+use trials_base::{Attempt, TrialFault, number_of};
 
 /// The grants of READ of the places that are parted by commas.
-fn chain_of(alloc: Global, text: &str) -> Result<Items<RecordName>, TrialFault> {
+fn chain_of(alloc: Global, text: &str) -> Attempt<Items<RecordName>> {
     let mut names = Vec::new(alloc);
     for word in text.split(',') {
         if !word.is_empty() {
@@ -22,7 +22,7 @@ fn chain_of(alloc: Global, text: &str) -> Result<Items<RecordName>, TrialFault> 
 }
 
 /// What a word shows: `owner`, `never`, `grants:PLACES` or `taken:PLACE:PLACES`.
-fn shown_of(alloc: Global, word: &str) -> Result<Shown, TrialFault> {
+fn shown_of(alloc: Global, word: &str) -> Attempt<Shown> {
     let (name, rest) = word.split_once(':').unwrap_or((word, ""));
     match name {
         "owner" => Ok(Shown::Owner),
@@ -37,19 +37,14 @@ fn shown_of(alloc: Global, word: &str) -> Result<Shown, TrialFault> {
 }
 
 /// A line for a need that shows what a word says.
-fn line_of(alloc: Global, need: &Need, word: &str) -> Result<Line, TrialFault> {
+fn line_of(alloc: Global, need: &Need, word: &str) -> Attempt<Line> {
     let shown = shown_of(alloc, word)?;
     Ok(Line { need: *need, shown })
 }
 
 /// Whether an explanation of a place is accepted, each of whose lines is for the need to read the first table, and shows what a word
 /// says. The first word is `READ` or `OPTION`.
-pub fn is_accepted(
-    alloc: Global,
-    engine: &Engine,
-    place: Place,
-    words: &[&str],
-) -> Result<bool, TrialFault> {
+pub fn is_accepted(alloc: Global, engine: &Engine, place: Place, words: &[&str]) -> Attempt<bool> {
     let [first, words @ ..] = words else {
         return Err(TrialFault::NotText);
     };

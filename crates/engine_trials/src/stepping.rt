@@ -4,7 +4,7 @@ use engine::{Crew, Engine};
 use log_text::parse_line;
 use model_base::Place;
 use std::alloc::Global;
-use trials_base::TrialFault;
+use trials_base::Attempt;
 
 /// This many workers and partitions.
 pub fn crew_of(workers: usize, partitions: usize) -> Crew {
@@ -15,7 +15,7 @@ pub fn crew_of(workers: usize, partitions: usize) -> Crew {
 }
 
 /// Takes a line into the log.
-pub fn push_line(alloc: Global, engine: &mut Engine, line: &str) -> Result<Place, TrialFault> {
+pub fn push_line(alloc: Global, engine: &mut Engine, line: &str) -> Attempt<Place> {
     let statement = parse_line(alloc, line.as_bytes())?;
     Ok(engine.push(&statement)?)
 }

@@ -3,11 +3,11 @@
 ghost use Rattle.std.specs.Prelude.{◌≡◌, ◌<◌, OnErr, length};
 ghost use Rattle.grants_base.specs.Book.{IsLater};
 
-use crate::refusal::print_refused;
+use crate::refusal::Caller;
 use grants::{Book, Creation, End, Records, to_end};
 use model_base::{Grant, Place, RecordName, Revocation, Table, User};
 use std::alloc::{AllocError, Global};
-use trials_base::{TrialFault, enter, give, grant_of, revocation_of, take};
+use trials_base::{Attempt, TrialFault, enter, give, grant_of, revocation_of, take};
 
 /// How many tables are created, by the first deeds.
 const TABLES: Place = 5;
@@ -45,7 +45,7 @@ fn extended(
 }
 
 /// Appends a table, a grant on it and the end of the grant.
-fn extend(book: &mut Book) -> Result<(), TrialFault> {
+fn extend(book: &mut Book) -> Attempt<()> {
     let number = book.tables().len();
     if !book.is_later(EXTENDED) || number >= 65_536 {
         return Err(TrialFault::Call);
@@ -62,11 +62,7 @@ fn extend(book: &mut Book) -> Result<(), TrialFault> {
 }
 
 /// The records that a revocation would end.
-fn ends(
-    alloc: Global,
-    book: &Book,
-    revocation: &Revocation,
-) -> Result<Vec<RecordName>, TrialFault> {
+fn ends(alloc: Global, book: &Book, revocation: &Revocation) -> Attempt<Vec<RecordName>> {
     let mut view = book.at(revocation.place);
     if !view.covers(revocation.table) {
         return Err(TrialFault::Call);
@@ -74,67 +70,80 @@ fn ends(
     Ok(to_end(alloc, &mut view, revocation)?)
 }
 
-/// Makes the tables, and then the grants on the first: the option, from each user to the next.
-fn try_chain(rt: &impl Print, alloc: Global, book: &mut Book) -> Result<(), TrialFault> {
-    for place in 0..TABLES {
-        let before = picture(alloc, book)?;
+impl<R: Print> Caller<'_, R> {
+    /// Creates a table.
+    fn try_table(&self, book: &mut Book, place: Place) -> Attempt<()> {
+        let before = picture(self.alloc, book)?;
         again!(
-            rt,
+            self,
             "Book::add_table",
             enter(book, place),
-            before == picture(alloc, book)?
+            before == picture(self.alloc, book)?
         );
-        println!(rt; "Book::add_table: {} tables", book.tables().len())?;
+        println!(self.rt; "Book::add_table: {} tables", book.tables().len())?;
+        Ok(())
     }
-    for place in TABLES..GRANTS {
-        let before = picture(alloc, book)?;
-        let user = place.saturating_sub(TABLES) as u32;
+
+    /// Grants the option on the first table, by each user to the next.
+    fn try_grant(&self, book: &mut Book, place: Place) -> Attempt<()> {
+        let before = picture(self.alloc, book)?;
+        let user = u32::try_from(place.saturating_sub(TABLES)).unwrap_or(0);
         let grant = grant_of(place, (user, user.saturating_add(1)), true);
         again!(
-            rt,
+            self,
             "Book::grant",
             give(book, grant),
-            before == picture(alloc, book)?
+            before == picture(self.alloc, book)?
         );
-        println!(rt; "Book::grant: {} records", book.records().len())?;
+        println!(self.rt; "Book::grant: {} records", book.records().len())?;
+        Ok(())
     }
-    Ok(())
-}
 
-/// Tells what the revocation of a grant in the middle of the chain would end, and makes it.
-fn try_revocation(rt: &impl Print, alloc: Global, book: &mut Book) -> Result<(), TrialFault> {
-    let revocation = revocation_of(20, (4, 5));
-    let ended = again!(rt, "to_end", ends(alloc, book, &revocation), true);
-    println!(rt; "to_end: {ended:?}")?;
-    let before = picture(alloc, book)?;
-    let ended = again!(
-        rt,
-        "Book::revoke",
-        take(alloc, book, &revocation),
-        before == picture(alloc, book)?
-    );
-    println!(rt; "Book::revoke: {ended:?}")?;
-    Ok(())
-}
+    /// Prints what a revocation would end, and makes it.
+    fn try_revocation(&self, book: &mut Book, revocation: &Revocation) -> Attempt<()> {
+        let ended = again!(self, "to_end", ends(self.alloc, book, revocation), true);
+        println!(self.rt; "to_end: {ended:?}")?;
+        let before = picture(self.alloc, book)?;
+        let ended = again!(
+            self,
+            "Book::revoke",
+            take(self.alloc, book, revocation),
+            before == picture(self.alloc, book)?
+        );
+        println!(self.rt; "Book::revoke: {ended:?}")?;
+        Ok(())
+    }
 
-/// Appends a table, a grant on it and its end.
-fn try_extension(rt: &impl Print, alloc: Global, book: &mut Book) -> Result<(), TrialFault> {
-    let before = picture(alloc, book)?;
-    again!(
-        rt,
-        "Book::extend",
-        extend(book),
-        before == picture(alloc, book)?
-    );
-    let (tables, records) = (book.tables().len(), book.records());
-    println!(rt; "Book::extend: {tables} tables, {records:?}")?;
-    Ok(())
-}
+    /// Appends a table, a grant on it and its end.
+    fn try_extension(&self, book: &mut Book) -> Attempt<()> {
+        let before = picture(self.alloc, book)?;
+        again!(
+            self,
+            "Book::extend",
+            extend(book),
+            before == picture(self.alloc, book)?
+        );
+        let (tables, records) = (book.tables().len(), book.records());
+        println!(self.rt; "Book::extend: {tables} tables, {records:?}")?;
+        Ok(())
+    }
 
-/// Tries the calls of a book of grants.
-pub fn try_book(rt: &impl Print, alloc: Global) -> Result<(), TrialFault> {
-    let mut book = Book::new(alloc);
-    try_chain(rt, alloc, &mut book)?;
-    try_revocation(rt, alloc, &mut book)?;
-    try_extension(rt, alloc, &mut book)
+    /// Makes the deeds: tables, a chain of grants, and the revocation of one in the middle of it.
+    fn try_deeds(&self, book: &mut Book) -> Attempt<()> {
+        for place in 0..GRANTS {
+            if place < TABLES {
+                self.try_table(book, place)?;
+            } else {
+                self.try_grant(book, place)?;
+            }
+        }
+        self.try_revocation(book, &revocation_of(20, (4, 5)))
+    }
+
+    /// Tries the calls of a book of grants.
+    pub fn try_book(&self) -> Attempt<()> {
+        let mut book = Book::new(self.alloc);
+        self.try_deeds(&mut book)?;
+        self.try_extension(&mut book)
+    }
 }

@@ -1,12 +1,12 @@
 //! Lines that are read as statements, printed as lines again and taken into the log of an engine, and the slow run of that log.
 
-use crate::refusal::print_refused;
+use crate::refusal::Caller;
 use engine::Engine;
 use log_text::{RawStatement, parse_line, print_statement};
 use model::serial;
 use model_base::{HashSeed, Key, Table};
 use std::alloc::{AllocError, Global};
-use trials_base::TrialFault;
+use trials_base::Attempt;
 
 /// The lines of a log, in which a grant falls with another, and a row is deleted and inserted again.
 pub const LINES: [&str; 10] = [
@@ -42,50 +42,72 @@ pub fn picture(alloc: Global, engine: &Engine) -> Result<String, AllocError> {
     format!(in alloc; "{users} users, {tables} tables, {statements:?} {finished}")
 }
 
-/// Prints a statement as the line that it was read from, and takes it into the log of an engine.
-fn try_statement(
-    rt: &impl Print,
-    alloc: Global,
-    engine: &mut Engine,
-    statement: &RawStatement<'_>,
-    line: &str,
-) -> Result<(), TrialFault> {
-    println!(rt; "parse_line: {line}")?;
-    let text = again!(
-        rt,
-        "print_statement",
-        print_statement(alloc, statement),
-        true
-    );
-    let same = text.as_slice() == line.as_bytes();
-    println!(rt; "print_statement: the line that was read: {same}")?;
-    let before = picture(alloc, engine)?;
-    let place = again!(
-        rt,
-        "Engine::push",
-        engine.push(statement),
-        before == picture(alloc, engine)?
-    );
-    println!(rt; "Engine::push: {place}")?;
-    Ok(())
-}
-
-/// Tries the calls from a line to a statement of a log, and the slow run.
-pub fn try_statements(rt: &impl Print, alloc: Global) -> Result<(), TrialFault> {
-    let mut engine = Engine::new(alloc);
-    for line in LINES {
-        let statement = again!(rt, "parse_line", parse_line(alloc, line.as_bytes()), true);
-        try_statement(rt, alloc, &mut engine, &statement, line)?;
+impl<R: Print> Caller<'_, R> {
+    /// Prints a statement as the line that it was read from.
+    fn try_printing(&self, statement: &RawStatement<'_>, line: &str) -> Attempt<()> {
+        println!(self.rt; "parse_line: {line}")?;
+        let text = again!(
+            self,
+            "print_statement",
+            print_statement(self.alloc, statement),
+            true
+        );
+        let same = text.as_slice() == line.as_bytes();
+        println!(self.rt; "print_statement: the line that was read: {same}")?;
+        Ok(())
     }
-    let log = engine.log();
-    let _dropped = log.dropped();
-    let seed = HashSeed::fixed();
-    let outcomes = again!(
-        rt,
-        "serial",
-        serial(alloc, log.kept_statements(), seed),
-        true
-    );
-    println!(rt; "serial: {outcomes:?}")?;
-    Ok(())
+
+    /// Takes a statement into the log of an engine.
+    fn try_push(&self, engine: &mut Engine, statement: &RawStatement<'_>) -> Attempt<()> {
+        let before = picture(self.alloc, engine)?;
+        let place = again!(
+            self,
+            "Engine::push",
+            engine.push(statement),
+            before == picture(self.alloc, engine)?
+        );
+        println!(self.rt; "Engine::push: {place}")?;
+        Ok(())
+    }
+
+    /// Reads a line as a statement.
+    fn read_line<'a>(&self, line: &'a str) -> Attempt<RawStatement<'a>> {
+        Ok(again!(
+            self,
+            "parse_line",
+            parse_line(self.alloc, line.as_bytes()),
+            true
+        ))
+    }
+
+    /// Reads a line as a statement, prints it again, and takes it into the log of an engine.
+    fn try_line(&self, engine: &mut Engine, line: &str) -> Attempt<()> {
+        let statement = self.read_line(line)?;
+        self.try_printing(&statement, line)?;
+        self.try_push(engine, &statement)
+    }
+
+    /// Runs the log of an engine by the slow run.
+    fn try_serial(&self, engine: &Engine) -> Attempt<()> {
+        let log = engine.log();
+        let _dropped = log.dropped();
+        let seed = HashSeed::fixed();
+        let outcomes = again!(
+            self,
+            "serial",
+            serial(self.alloc, log.kept_statements(), seed),
+            true
+        );
+        println!(self.rt; "serial: {outcomes:?}")?;
+        Ok(())
+    }
+
+    /// Tries the calls from a line to a statement of a log, and the slow run.
+    pub fn try_statements(&self) -> Attempt<()> {
+        let mut engine = Engine::new(self.alloc);
+        for line in LINES {
+            self.try_line(&mut engine, line)?;
+        }
+        self.try_serial(&engine)
+    }
 }

@@ -6,11 +6,12 @@
 
 /// Makes a call again if it was refused something, of which a line is printed, with whether all is as it was. Any other fault is returned.
 macro_rules! again {
-    ($rt:expr, $name:expr, $call:expr, $same:expr) => {
+    ($caller:expr, $name:expr, $call:expr, $same:expr) => {
         match $call {
             Ok(found) => found,
             Err(fault) => {
-                print_refused($rt, $name, TrialFault::from(fault), "as before", $same)?;
+                let fault = trials_base::TrialFault::from(fault);
+                $caller.print_refused($name, fault, "as before", $same)?;
                 $call?
             }
         }
@@ -27,48 +28,39 @@ mod runs;
 mod texts;
 mod versions;
 
-use deeds::try_book;
-use lines::try_statements;
-use machine::try_machine;
-use options::try_options;
-use places::{try_batch, try_chain};
-use runs::try_engine;
-use std::alloc::Global;
+use refusal::Caller;
 use std::env;
 use std::process::ExitCode;
 use std::rt::Env;
 use std::sync::Wait;
 use std::thread::Threads;
-use texts::{try_texts, try_workers};
-use trials_base::TrialFault;
-use versions::try_store;
+use trials_base::{Attempt, TrialFault};
 
-/// Makes the calls that a word names.
-fn try_word<R: Threads + Wait + Print + Sync>(
-    rt: &R,
-    alloc: Global,
-    word: &str,
-) -> Result<(), TrialFault> {
-    match word {
-        "book" => try_book(rt, alloc),
-        "store" => try_store(rt, alloc),
-        "statements" => try_statements(rt, alloc),
-        "machine" => try_machine(rt, alloc),
-        "batch" => try_batch(rt, alloc),
-        "chain" => try_chain(rt, alloc),
-        "engine" => try_engine(rt, alloc),
-        "texts" => try_texts(rt, alloc),
-        "workers" => try_workers(rt, alloc),
-        "words" => try_options(rt, alloc),
-        _ => Err(TrialFault::Call),
+impl<R: Threads + Wait + Print + Sync> Caller<'_, R> {
+    /// Makes the calls that a word names.
+    fn try_word(&self, word: &str) -> Attempt<()> {
+        match word {
+            "book" => self.try_book(),
+            "store" => self.try_store(),
+            "statements" => self.try_statements(),
+            "machine" => self.try_machine(),
+            "batch" => self.try_places(),
+            "chain" => self.try_chain(),
+            "engine" => self.try_engine(),
+            "texts" => self.try_texts(),
+            "workers" => self.try_workers(),
+            "words" => self.try_options(),
+            _ => Err(TrialFault::Call),
+        }
     }
 }
 
 /// Makes the calls that the words of the command line name.
-fn run<R: Env + Threads + Wait + Print + AllocGlobal + Sync>(rt: &R) -> Result<(), TrialFault> {
-    let words = env::args(rt)?.collect::<Vec<String>>(rt.alloc())?;
+fn run<R: Env + Threads + Wait + Print + AllocGlobal + Sync>(rt: &R) -> Attempt<()> {
+    let alloc = rt.alloc();
+    let words = env::args(rt)?.collect::<Vec<String>>(alloc)?;
     for word in words.iter().skip(1) {
-        try_word(rt, rt.alloc(), word.as_str())?;
+        Caller { rt, alloc }.try_word(word.as_str())?;
     }
     Ok(())
 }

@@ -5,39 +5,18 @@ ghost use Rattle.words.specs.Passes.{IsPassOf};
 ghost use Rattle.engine.specs.RunState.{IsRunState};
 
 use crate::lines::LINES;
-use crate::machine::batch_of;
-use crate::refusal::print_refused;
+use crate::refusal::Caller;
 use engine::RunState;
 use filling::{Ran, RangeKey, outcome, run_place};
 use filling_base::{Batch, Fills, Tried};
 use model_base::Outcome;
 use std::alloc::{AllocError, Global};
-use trials_base::{TrialFault, WholeLog, adding_log, before_place, log_of};
+use trials_base::{Attempt, TrialFault, WholeLog, adding_log, before_place, log_of};
 use words::{BatchData, Holding, Pass, Seen};
 
 const LAST: &str = "a chain of 100, its last place";
 
 const FIRST: &str = "a chain of 100, its first place in a new batch";
-
-/// The shared words of all places of a log that has some, and their first pass.
-fn words_of<'a>(
-    rt: &impl Print,
-    alloc: Global,
-    log: &'a WholeLog,
-    before: &'a RunState,
-) -> Result<(Batch<RangeKey<'a>>, Pass), TrialFault>
-    requires some { 0 < length log.now.statements }
-    requires before { IsRunState log.now.statements 0 before.now.chains before.now.book }
-    ensures { IfOk result (λ made. IsPassOf made.0 made.1) }
-{
-    let key = again!(
-        rt,
-        "RangeKey::of",
-        RangeKey::of(alloc, batch_of(rt, alloc, log, before, 1)?),
-        true
-    );
-    Ok(Batch::new(alloc, key)?)
-}
 
 /// A call of a place.
 #[derive(Clone, Copy)]
@@ -105,91 +84,102 @@ fn none_held(batch: &Batch<RangeKey<'_>>, pass: Pass) -> bool
     true
 }
 
-/// Calls for a place, again where a growth was refused, after which no place is held.
-fn try_call(
-    rt: &impl Print,
-    name: &str,
-    batch: &Batch<RangeKey<'_>>,
-    pass: Pass,
-    call: Call,
-    index: usize,
-) -> Result<Pass, TrialFault>
-    requires { IsPassOf batch.now pass }
-    ensures { IfOk result (λ pass. IsPassOf batch.now pass) }
-{
-    if index >= batch.key().places() {
-        return Err(TrialFault::Call);
+impl<R: Print> Caller<'_, R> {
+    /// The shared words of all places of a log that has some, and their first pass.
+    fn shared_words<'a>(
+        &self,
+        log: &'a WholeLog,
+        before: &'a RunState,
+    ) -> Attempt<(Batch<RangeKey<'a>>, Pass)>
+        requires some { 0 < length log.now.statements }
+        requires before { IsRunState log.now.statements 0 before.now.chains before.now.book }
+        ensures { IfOk result (λ made. IsPassOf made.0 made.1) }
+    {
+        let key = again!(
+            self,
+            "RangeKey::of",
+            RangeKey::of(self.alloc, self.batch_of(log, before, 1)?),
+            true
+        );
+        Ok(Batch::new(self.alloc, key)?)
     }
-    let (pass, found) = call_for(batch, pass, call, index);
-    if let Ok(found) = found {
-        println!(rt; "{name}: {found:?}")?;
-        return Ok(pass);
+
+    /// Calls for a place, again where a growth was refused, after which no place is held.
+    fn try_call(
+        &self,
+        name: &str,
+        batch: &Batch<RangeKey<'_>>,
+        pass: Pass,
+        call: Call,
+        index: usize,
+    ) -> Attempt<Pass>
+        requires { IsPassOf batch.now pass }
+        ensures { IfOk result (λ pass. IsPassOf batch.now pass) }
+    {
+        if index >= batch.key().places() {
+            return Err(TrialFault::Call);
+        }
+        let (pass, found) = call_for(batch, pass, call, index);
+        if let Ok(found) = found {
+            println!(self.rt; "{name}: {found:?}")?;
+            return Ok(pass);
+        }
+        let (pass, other) = batch.split(pass);
+        let is_left = none_held(batch, other);
+        self.print_refused(name, TrialFault::NoMemory(AllocError), "as before", is_left)?;
+        let (pass, found) = call_for(batch, pass, call, index);
+        println!(self.rt; "{name}: {:?}", found?)?;
+        Ok(pass)
     }
-    let (pass, other) = batch.split(pass);
-    let is_left = none_held(batch, other);
-    print_refused(
-        rt,
-        name,
-        TrialFault::NoMemory(AllocError),
-        "as before",
-        is_left,
-    )?;
-    let (pass, found) = call_for(batch, pass, call, index);
-    println!(rt; "{name}: {:?}", found?)?;
-    Ok(pass)
-}
 
-/// Asks for the last place of a log and for its outcome, and runs the place of the revocation, in a batch of its own.
-fn try_places(
-    rt: &impl Print,
-    alloc: Global,
-    log: &WholeLog,
-    before: &RunState,
-) -> Result<(), TrialFault>
-    requires some { 0 < length log.now.statements }
-    requires before { IsRunState log.now.statements 0 before.now.chains before.now.book }
-{
-    let (batch, pass) = words_of(rt, alloc, log, before)?;
-    let pass = try_call(rt, "Batch::try_run", &batch, pass, Call::TryRun, 9)?;
-    let pass = try_call(rt, "outcome", &batch, pass, Call::Outcome, 9)?;
-    let _pass = try_call(rt, "outcome", &batch, pass, Call::Outcome, 5)?;
-    try_alone(rt, alloc, log, before, "run_place", 5)
-}
-
-/// Runs a place of a log in a batch of its own.
-fn try_alone(
-    rt: &impl Print,
-    alloc: Global,
-    log: &WholeLog,
-    before: &RunState,
-    name: &str,
-    index: usize,
-) -> Result<(), TrialFault>
-    requires some { 0 < length log.now.statements }
-    requires before { IsRunState log.now.statements 0 before.now.chains before.now.book }
-{
-    let (batch, pass) = words_of(rt, alloc, log, before)?;
-    let _pass = try_call(rt, name, &batch, pass, Call::RunPlace, index)?;
-    Ok(())
-}
-
-/// Tries the calls of places.
-pub fn try_batch(rt: &impl Print, alloc: Global) -> Result<(), TrialFault> {
-    let log = log_of(alloc, &LINES)?;
-    if log.len() == 0 {
-        return Err(TrialFault::Call);
+    /// Asks for the last place of a log, for its outcome, and for that of the revocation.
+    fn try_asking(&self, batch: &Batch<RangeKey<'_>>, pass: Pass) -> Attempt<()>
+        requires { IsPassOf batch.now pass }
+    {
+        let pass = self.try_call("Batch::try_run", batch, pass, Call::TryRun, 9)?;
+        let pass = self.try_call("outcome", batch, pass, Call::Outcome, 9)?;
+        let _pass = self.try_call("outcome", batch, pass, Call::Outcome, 5)?;
+        Ok(())
     }
-    let before = before_place(alloc, &log, 0)?;
-    try_places(rt, alloc, &log, &before)
-}
 
-/// Tries the last place of a chain, each of which adds 1 to what the one before wrote, and in a new batch the first that has a row.
-pub fn try_chain(rt: &impl Print, alloc: Global) -> Result<(), TrialFault> {
-    let log = adding_log(alloc, 102, 1)?;
-    if log.len() == 0 {
-        return Err(TrialFault::Call);
+    /// Asks for places of a log, in a batch of theirs.
+    fn try_together(&self, log: &WholeLog, before: &RunState) -> Attempt<()>
+        requires some { 0 < length log.now.statements }
+        requires before { IsRunState log.now.statements 0 before.now.chains before.now.book }
+    {
+        let (batch, pass) = self.shared_words(log, before)?;
+        self.try_asking(&batch, pass)
     }
-    let before = before_place(alloc, &log, 0)?;
-    try_alone(rt, alloc, &log, &before, LAST, 101)?;
-    try_alone(rt, alloc, &log, &before, FIRST, 1)
+
+    /// Runs a place of a log in a batch of its own.
+    fn try_alone(&self, log: &WholeLog, before: &RunState, name: &str, index: usize) -> Attempt<()>
+        requires some { 0 < length log.now.statements }
+        requires before { IsRunState log.now.statements 0 before.now.chains before.now.book }
+    {
+        let (batch, pass) = self.shared_words(log, before)?;
+        let _pass = self.try_call(name, &batch, pass, Call::RunPlace, index)?;
+        Ok(())
+    }
+
+    /// Tries the calls of places: some in one batch, and the revocation in a batch of its own.
+    pub fn try_places(&self) -> Attempt<()> {
+        let log = log_of(self.alloc, &LINES)?;
+        if log.len() == 0 {
+            return Err(TrialFault::Call);
+        }
+        let before = before_place(self.alloc, &log, 0)?;
+        self.try_together(&log, &before)?;
+        self.try_alone(&log, &before, "run_place", 5)
+    }
+
+    /// Tries the last place of a chain, each of which adds 1 to what the one before wrote, and in a new batch the first that has a row.
+    pub fn try_chain(&self) -> Attempt<()> {
+        let log = adding_log(self.alloc, 102, 1)?;
+        if log.len() == 0 {
+            return Err(TrialFault::Call);
+        }
+        let before = before_place(self.alloc, &log, 0)?;
+        self.try_alone(&log, &before, LAST, 101)?;
+        self.try_alone(&log, &before, FIRST, 1)
+    }
 }

@@ -1,7 +1,7 @@
 //! An engine that runs a log in batches, and explains its places.
 
 use crate::lines::{LINES, finished_text, picture};
-use crate::refusal::print_refused;
+use crate::refusal::Caller;
 use engine::{Crew, Engine};
 use explain::explain;
 use log_text::parse_line;
@@ -9,11 +9,11 @@ use model_base::Place;
 use std::alloc::Global;
 use std::sync::Wait;
 use std::thread::Threads;
-use trials_base::TrialFault;
+use trials_base::Attempt;
 use workers::NoGate;
 
 /// Takes the lines into the log.
-fn push_lines(alloc: Global, engine: &mut Engine) -> Result<(), TrialFault> {
+fn push_lines(alloc: Global, engine: &mut Engine) -> Attempt<()> {
     for line in LINES {
         let statement = parse_line(alloc, line.as_bytes())?;
         engine.push(&statement)?;
@@ -21,43 +21,42 @@ fn push_lines(alloc: Global, engine: &mut Engine) -> Result<(), TrialFault> {
     Ok(())
 }
 
-/// Runs the next places, up to this one, as a batch by this many workers.
-fn try_batch<R: Threads + Wait + Print + Sync>(
-    rt: &R,
-    alloc: Global,
-    engine: &mut Engine,
-    end: Place,
-    workers: usize,
-) -> Result<(), TrialFault> {
-    let crew = Crew {
-        workers,
-        partitions: 2,
-    };
-    let (before, start) = (picture(alloc, engine)?, engine.finished());
-    again!(
-        rt,
-        "Engine::run_batch",
-        engine.run_batch(rt, alloc, start..end, crew, &NoGate),
-        before == picture(alloc, engine)?
-    );
-    let after = finished_text(alloc, engine)?;
-    println!(rt; "Engine::run_batch: {after}")?;
-    Ok(())
-}
+impl<R: Threads + Wait + Print + Sync> Caller<'_, R> {
+    /// Runs the next places, up to this one, as a batch by this many workers.
+    fn run_batch(&self, engine: &mut Engine, end: Place, workers: usize) -> Attempt<()> {
+        let crew = Crew {
+            workers,
+            partitions: 2,
+        };
+        let (before, start) = (picture(self.alloc, engine)?, engine.finished());
+        again!(
+            self,
+            "Engine::run_batch",
+            engine.run_batch(self.rt, self.alloc, start..end, crew, &NoGate),
+            before == picture(self.alloc, engine)?
+        );
+        let after = finished_text(self.alloc, engine)?;
+        println!(self.rt; "Engine::run_batch: {after}")?;
+        Ok(())
+    }
 
-/// Tries the calls of an engine: its log in batches, and each of its places explained.
-pub fn try_engine<R: Threads + Wait + Print + Sync>(
-    rt: &R,
-    alloc: Global,
-) -> Result<(), TrialFault> {
-    let mut engine = Engine::new(alloc);
-    push_lines(alloc, &mut engine)?;
-    for (end, workers) in [(3, 1), (8, 2), (10, 1)] {
-        try_batch(rt, alloc, &mut engine, end, workers)?;
+    /// Explains a place.
+    fn try_explain(&self, engine: &Engine, place: Place) -> Attempt<()> {
+        let explanation = again!(self, "explain", explain(self.alloc, engine, place), true);
+        println!(self.rt; "explain: {explanation:?}")?;
+        Ok(())
     }
-    for place in 0..engine.finished() {
-        let explanation = again!(rt, "explain", explain(alloc, &engine, place), true);
-        println!(rt; "explain: {explanation:?}")?;
+
+    /// Tries the calls of an engine: its log in batches, and each of its places explained.
+    pub fn try_engine(&self) -> Attempt<()> {
+        let mut engine = Engine::new(self.alloc);
+        push_lines(self.alloc, &mut engine)?;
+        for (end, workers) in [(3, 1), (8, 2), (10, 1)] {
+            self.run_batch(&mut engine, end, workers)?;
+        }
+        for place in 0..engine.finished() {
+            self.try_explain(&engine, place)?;
+        }
+        Ok(())
     }
-    Ok(())
 }

@@ -1,6 +1,6 @@
 //! Reports of logs, and answers to questions about them, from bytes to bytes.
 
-use crate::refusal::print_refused;
+use crate::refusal::Caller;
 use audit_text::{Question, explain_text, grants_text};
 use batched_text::{Settings, report_text, run_text};
 use bohm_base::serial_text;
@@ -9,7 +9,7 @@ use model_base::{HashSeed, Place};
 use std::alloc::Global;
 use std::sync::Wait;
 use std::thread::Threads;
-use trials_base::TrialFault;
+use trials_base::Attempt;
 
 /// Who was granted in two ways loses one of them.
 const TWO_WAYS: &[u8] =
@@ -54,7 +54,7 @@ impl Text {
         alloc: Global,
         log: &[u8],
         text: &mut Counted<Vec<u8>>,
-    ) -> Result<(), TrialFault> {
+    ) -> Attempt<()> {
         let seed = HashSeed::fixed();
         let mut log = Counted::new(log);
         match self {
@@ -76,59 +76,49 @@ impl Text {
     }
 }
 
-/// Writes a text of a log, again where that failed: what was written before is a beginning of it.
-fn try_text<R: Threads + Wait + Print + Sync>(
-    rt: &R,
-    alloc: Global,
-    call: &str,
-    text: &Text,
-    log: &[u8],
-) -> Result<(), TrialFault> {
-    let mut first = Counted::new(Vec::with_capacity(alloc, ROOM)?);
-    let mut other = Counted::new(Vec::with_capacity(alloc, ROOM)?);
-    if let Err(fault) = text.write(rt, alloc, log, &mut first) {
-        text.write(rt, alloc, log, &mut other)?;
-        let begun = other.inner.starts_with(first.inner.as_slice());
-        print_refused(rt, call, fault, "after a beginning", begun)?;
-        first = other;
-    }
-    let written = str::from_utf8(first.inner.as_slice()).unwrap_or("no text");
-    println!(rt; "{call}: {written:?}")?;
-    Ok(())
-}
-
-/// Tries the calls from bytes to bytes on three logs, of each of which one place is explained, by one worker.
-pub fn try_texts<R: Threads + Wait + Print + Sync>(
-    rt: &R,
-    alloc: Global,
-) -> Result<(), TrialFault> {
-    for (log, place) in [(TWO_WAYS, 8), (DEED_BY_DATA, 5), (LISTS, 5)] {
-        for (call, text) in [
-            ("serial_text", Text::Slow),
-            ("report_text", Text::Batches(settings(1, 3))),
-            ("explain_text", Text::Explanation(place)),
-            ("grants_text", Text::Picture),
-            ("run_text, batch 1, 1 worker", Text::Kept(settings(1, 1))),
-            ("run_text, batch 3, 1 worker", Text::Kept(settings(1, 3))),
-        ] {
-            try_text(rt, alloc, call, &text, log)?;
+impl<R: Threads + Wait + Print + Sync> Caller<'_, R> {
+    /// Writes a text of a log, again where that failed: what was written before is a beginning of it.
+    fn try_text(&self, call: &str, text: &Text, log: &[u8]) -> Attempt<()> {
+        let mut first = Counted::new(Vec::with_capacity(self.alloc, ROOM)?);
+        let mut other = Counted::new(Vec::with_capacity(self.alloc, ROOM)?);
+        if let Err(fault) = text.write(self.rt, self.alloc, log, &mut first) {
+            text.write(self.rt, self.alloc, log, &mut other)?;
+            let begun = other.inner.starts_with(first.inner.as_slice());
+            self.print_refused(call, fault, "after a beginning", begun)?;
+            first = other;
         }
+        let written = str::from_utf8(first.inner.as_slice()).unwrap_or("no text");
+        println!(self.rt; "{call}: {written:?}")?;
+        Ok(())
     }
-    Ok(())
-}
 
-/// Tries the runs of the three logs by two workers.
-pub fn try_workers<R: Threads + Wait + Print + Sync>(
-    rt: &R,
-    alloc: Global,
-) -> Result<(), TrialFault> {
-    for log in [TWO_WAYS, DEED_BY_DATA, LISTS] {
-        for (call, batch) in [
-            ("run_text, batch 1, 2 workers", 1),
-            ("run_text, batch 3, 2 workers", 3),
-        ] {
-            try_text(rt, alloc, call, &Text::Kept(settings(2, batch)), log)?;
+    /// Tries the calls from bytes to bytes on three logs, of each of which one place is explained, by one worker.
+    pub fn try_texts(&self) -> Attempt<()> {
+        for (log, place) in [(TWO_WAYS, 8), (DEED_BY_DATA, 5), (LISTS, 5)] {
+            for (call, text) in [
+                ("serial_text", Text::Slow),
+                ("report_text", Text::Batches(settings(1, 3))),
+                ("explain_text", Text::Explanation(place)),
+                ("grants_text", Text::Picture),
+                ("run_text, batch 1, 1 worker", Text::Kept(settings(1, 1))),
+                ("run_text, batch 3, 1 worker", Text::Kept(settings(1, 3))),
+            ] {
+                self.try_text(call, &text, log)?;
+            }
         }
+        Ok(())
     }
-    Ok(())
+
+    /// Tries the runs of the three logs by two workers.
+    pub fn try_workers(&self) -> Attempt<()> {
+        for log in [TWO_WAYS, DEED_BY_DATA, LISTS] {
+            for (call, batch) in [
+                ("run_text, batch 1, 2 workers", 1),
+                ("run_text, batch 3, 2 workers", 3),
+            ] {
+                self.try_text(call, &Text::Kept(settings(2, batch)), log)?;
+            }
+        }
+        Ok(())
+    }
 }

@@ -3,11 +3,11 @@
 ghost use Rattle.std.specs.Prelude.{◌≡◌, ◌+◌, IfOk};
 ghost use Rattle.chains.specs.Store.{AreBetween};
 
-use crate::refusal::print_refused;
+use crate::refusal::Caller;
 use chains::{Chains, Trimmed, Version};
 use model_base::{Key, Place, Row, Table};
 use std::alloc::{AllocError, Global};
-use trials_base::TrialFault;
+use trials_base::{Attempt, TrialFault};
 
 /// How many places make versions.
 const PLACES: u32 = 12;
@@ -37,7 +37,7 @@ fn pair(alloc: Global, place: u32) -> Result<Vec<Version>, AllocError>
 }
 
 /// Appends the versions of a place to a store that ends there.
-fn append(alloc: Global, chains: &mut Chains, place: u32) -> Result<(), TrialFault> {
+fn append(alloc: Global, chains: &mut Chains, place: u32) -> Attempt<()> {
     let versions = pair(alloc, place)?;
     if chains.end() != Place::from(place) {
         return Err(TrialFault::Call);
@@ -61,20 +61,28 @@ fn rows_of(
     Ok(rows)
 }
 
-/// Tries the call of a store of versions.
-pub fn try_store(rt: &impl Print, alloc: Global) -> Result<(), TrialFault> {
-    let mut chains = Chains::new(alloc);
-    for place in 0..PLACES {
-        let before = rows_of(alloc, &chains)?;
+impl<R: Print> Caller<'_, R> {
+    /// Appends the versions of a place.
+    fn try_append(&self, chains: &mut Chains, place: u32) -> Attempt<()> {
+        let before = rows_of(self.alloc, chains)?;
         again!(
-            rt,
+            self,
             "Chains::append",
-            append(alloc, &mut chains, place),
-            before == rows_of(alloc, &chains)?
+            append(self.alloc, chains, place),
+            before == rows_of(self.alloc, chains)?
         );
-        println!(rt; "Chains::append: the store ends at {}", chains.end())?;
+        println!(self.rt; "Chains::append: the store ends at {}", chains.end())?;
+        Ok(())
     }
-    let rows = rows_of(alloc, &chains)?;
-    println!(rt; "Chains::append: {rows:?}")?;
-    Ok(())
+
+    /// Tries the call of a store of versions.
+    pub fn try_store(&self) -> Attempt<()> {
+        let mut chains = Chains::new(self.alloc);
+        for place in 0..PLACES {
+            self.try_append(&mut chains, place)?;
+        }
+        let rows = rows_of(self.alloc, &chains)?;
+        println!(self.rt; "Chains::append: {rows:?}")?;
+        Ok(())
+    }
 }

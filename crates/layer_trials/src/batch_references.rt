@@ -5,7 +5,7 @@ ghost use Rattle.std.specs.Prelude.{◌<◌};
 use model_base::{Key, Place, Table};
 use placing::{Refs, merge, partition_of, partition_of_table};
 use std::alloc::Global;
-use trials_base::{TrialFault, WholeLog, log_of, references_of};
+use trials_base::{Attempt, TrialFault, WholeLog, log_of, references_of};
 
 /// The key of a row whose number is the greatest.
 const KEY: Key = Key {
@@ -27,7 +27,7 @@ const LINES: [&str; 7] = [
 const BATCHES: [(Place, usize); 5] = [(1, 1), (1, 7), (1, 64), (5, 3), (7, 2)];
 
 /// Prints what each place of a batch is referred to.
-fn print_refs(rt: &impl Print, refs: &Refs) -> Result<(), TrialFault> {
+fn print_refs(rt: &impl Print, refs: &Refs) -> Attempt<()> {
     println!(rt; "  places: {}", refs.len())?;
     for index in 0..refs.len() {
         println!(rt; "  places: {:?}", refs.of(index))?;
@@ -36,7 +36,7 @@ fn print_refs(rt: &impl Print, refs: &Refs) -> Result<(), TrialFault> {
 }
 
 /// Prints the references of the batches that have the places of the log from a first one on.
-fn print_references(rt: &impl Print, alloc: Global, log: &WholeLog) -> Result<(), TrialFault> {
+fn print_references(rt: &impl Print, alloc: Global, log: &WholeLog) -> Attempt<()> {
     for (first, partitions) in BATCHES {
         if first > log.len() || partitions == 0 {
             return Err(TrialFault::Call);
@@ -49,7 +49,7 @@ fn print_references(rt: &impl Print, alloc: Global, log: &WholeLog) -> Result<()
 }
 
 /// Prints the references of no batch and of several, and the partitions of a row and of a table.
-pub fn print_batch_references(rt: &impl Print, alloc: Global) -> Result<(), TrialFault> {
+pub fn print_batch_references(rt: &impl Print, alloc: Global) -> Attempt<()> {
     print_refs(rt, &merge(alloc, Vec::new(alloc))?)?;
     let rows = (partition_of(KEY, 7), partition_of(KEY, 1));
     println!(rt;

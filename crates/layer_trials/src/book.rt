@@ -6,7 +6,7 @@ use explain::{are_sound, explain_needs};
 use grants::{Book, BookView, Holder, Records, denial, holds, holds_option, last_loss, to_end};
 use model_base::{Grantee, Kind, Need, Place, RecordName, Revocation, Table, User};
 use std::alloc::Global;
-use trials_base::{TABLE, TrialFault, count_of, grant_of, number_of, revocation_of};
+use trials_base::{Attempt, TABLE, TrialFault, count_of, grant_of, number_of, revocation_of};
 
 /// The book at a place, with nothing counted yet.
 fn counted(book: &Book, place: Place) -> Counting<BookView<'_>> {
@@ -18,13 +18,13 @@ fn counted(book: &Book, place: Place) -> Counting<BookView<'_>> {
 }
 
 /// Two users, by their numbers from a word on.
-fn users_of(words: &[&str], index: usize) -> Result<(u32, u32), TrialFault> {
+fn users_of(words: &[&str], index: usize) -> Attempt<(u32, u32)> {
     let next = index.saturating_add(1);
     Ok((count_of(words, index)?, count_of(words, next)?))
 }
 
 /// A need on the table: a kind, and `OPTION` if it is to be granted further.
-fn need_of(words: &[&str], index: usize) -> Result<Need, TrialFault> {
+fn need_of(words: &[&str], index: usize) -> Attempt<Need> {
     let kind = match words.get(index) {
         Some(word) if *word == "READ" => Kind::Read,
         Some(word) if *word == "INSERT" => Kind::Insert,
@@ -38,7 +38,7 @@ fn need_of(words: &[&str], index: usize) -> Result<Need, TrialFault> {
 }
 
 /// This many users are granted READ one after another, or one of them this many options, by which it grants READ to as many others.
-fn give_many(both: &mut Both, count: u32, is_option: bool) -> Result<(), TrialFault> {
+fn give_many(both: &mut Both, count: u32, is_option: bool) -> Attempt<()> {
     for number in 1..=count {
         let grantee = if is_option { 1 } else { number };
         both.give(&grant_of(Place::from(number), (0, grantee), is_option))?;
@@ -52,7 +52,7 @@ fn give_many(both: &mut Both, count: u32, is_option: bool) -> Result<(), TrialFa
 }
 
 /// User 1 is granted READ and loses it this many times.
-fn give_and_take(alloc: Global, both: &mut Both, count: u32) -> Result<(), TrialFault> {
+fn give_and_take(alloc: Global, both: &mut Both, count: u32) -> Attempt<()> {
     for number in 1..=count {
         let place = Place::from(number).saturating_mul(2);
         both.give(&grant_of(place, (0, 1), false))?;
@@ -62,12 +62,7 @@ fn give_and_take(alloc: Global, both: &mut Both, count: u32) -> Result<(), Trial
 }
 
 /// What a view says of a user's need: whether it is held, how it is denied, and where it was lost.
-fn need_text<V: Records>(
-    alloc: Global,
-    view: &mut V,
-    user: User,
-    need: &Need,
-) -> Result<String, TrialFault> {
+fn need_text<V: Records>(alloc: Global, view: &mut V, user: User, need: &Need) -> Attempt<String> {
     if !view.covers(need.table) {
         return Err(TrialFault::Call);
     }
@@ -92,7 +87,7 @@ fn counted_need(
     place: Place,
     user: User,
     need: &Need,
-) -> Result<String, TrialFault> {
+) -> Attempt<String> {
     let mut view = counted(&both.book, place);
     let text = need_text(alloc, &mut view, user, need)?;
     expect(text == need_text(alloc, &mut both.plain.at(place), user, need)?)?;
@@ -105,7 +100,7 @@ fn ended<V: Records>(
     alloc: Global,
     view: &mut V,
     revocation: &Revocation,
-) -> Result<Vec<RecordName>, TrialFault> {
+) -> Attempt<Vec<RecordName>> {
     if view.at() != revocation.place || !view.covers(revocation.table) {
         return Err(TrialFault::Call);
     }
@@ -113,12 +108,7 @@ fn ended<V: Records>(
 }
 
 /// How many grants a revocation would end, as both books say, and how many it looks at for that.
-fn ends_text(
-    alloc: Global,
-    both: &Both,
-    place: Place,
-    users: (u32, u32),
-) -> Result<String, TrialFault> {
+fn ends_text(alloc: Global, both: &Both, place: Place, users: (u32, u32)) -> Attempt<String> {
     let revocation = revocation_of(place, users);
     let mut view = counted(&both.book, place);
     let names = ended(alloc, &mut view, &revocation)?;
@@ -129,11 +119,7 @@ fn ends_text(
 }
 
 /// What a view says of itself and of the record that is first, and which record is next to a user and by one.
-fn view_text<V: Records>(
-    alloc: Global,
-    view: &mut V,
-    users: (u32, u32),
-) -> Result<String, TrialFault> {
+fn view_text<V: Records>(alloc: Global, view: &mut V, users: (u32, u32)) -> Attempt<String> {
     let (place, slots, other) = (view.at(), view.slots(), view.covers(Table(1)));
     if slots == 0 || !view.covers(TABLE) {
         return Err(TrialFault::Call);
@@ -153,13 +139,7 @@ fn view_text<V: Records>(
 }
 
 /// The lines that explain a user's need at a place, and whether they are sound.
-fn lines_text(
-    alloc: Global,
-    book: &Book,
-    place: Place,
-    user: User,
-    need: Need,
-) -> Result<String, TrialFault> {
+fn lines_text(alloc: Global, book: &Book, place: Place, user: User, need: Need) -> Attempt<String> {
     if book.tables().len() <= need.table.0 as usize {
         return Err(TrialFault::Call);
     }
@@ -170,12 +150,7 @@ fn lines_text(
 
 /// Makes deeds, and says how many tables and records there are: `new`; `table PLACE`, of user 0; `grant` and `option PLACE USER USER`;
 /// `readers`, `options` and `turns COUNT`; `cut PLACE`.
-fn change(
-    alloc: Global,
-    both: &mut Both,
-    verb: &str,
-    words: &[&str],
-) -> Result<String, TrialFault> {
+fn change(alloc: Global, both: &mut Both, verb: &str, words: &[&str]) -> Attempt<String> {
     match verb {
         "new" => *both = Both::new(alloc),
         "table" => both.enter(number_of(words, 0)?)?,
@@ -198,7 +173,7 @@ fn change(
 /// Makes a case on both books, and says what it results in, which has to be the same of both: a change; `revoke PLACE USER USER`, and of
 /// one that isn't made `ends`; `need PLACE USER KIND`, with `OPTION` or without; `lines PLACE USER KIND`, of the book alone; `view PLACE
 /// USER USER`.
-pub fn outcome(alloc: Global, both: &mut Both, words: &[&str]) -> Result<String, TrialFault> {
+pub fn outcome(alloc: Global, both: &mut Both, words: &[&str]) -> Attempt<String> {
     let [verb, words @ ..] = words else {
         return Err(TrialFault::NotText);
     };

@@ -3,7 +3,7 @@
 use grants::{Book, RecordBook};
 use model_base::{Grant, Place, RecordName, Revocation, User};
 use std::alloc::Global;
-use trials_base::{PlainBook, TrialFault, enter, give, take};
+use trials_base::{Attempt, PlainBook, TrialFault, enter, give, take};
 
 /// A book, and the plain one in which the same is done.
 #[derive(Drop)]
@@ -13,16 +13,12 @@ pub struct Both {
 }
 
 /// What the books say has to be the same.
-pub fn expect(same: bool) -> Result<(), TrialFault> {
+pub fn expect(same: bool) -> Attempt<()> {
     same.then_some(()).ok_or(TrialFault::Differs)
 }
 
 /// The names of records that both books have ended.
-pub fn agreed(
-    alloc: Global,
-    names: &[RecordName],
-    others: &[RecordName],
-) -> Result<String, TrialFault> {
+pub fn agreed(alloc: Global, names: &[RecordName], others: &[RecordName]) -> Attempt<String> {
     let text = format!(in alloc; "{names:?}")?;
     expect(text == format!(in alloc; "{others:?}")?)?;
     Ok(text)
@@ -43,7 +39,7 @@ impl Both {
     }
 
     /// Adds a table of user 0.
-    pub fn enter(&mut self, place: Place) -> Result<(), TrialFault> {
+    pub fn enter(&mut self, place: Place) -> Attempt<()> {
         let made = enter(&mut self.book, place);
         let other = self.plain.add_table(User(0), place);
         expect(made.is_ok() == other.is_ok())?;
@@ -51,7 +47,7 @@ impl Both {
     }
 
     /// Makes a grant, whose grantor holds the option.
-    pub fn give(&mut self, grant: &Grant) -> Result<(), TrialFault> {
+    pub fn give(&mut self, grant: &Grant) -> Attempt<()> {
         let made = give(&mut self.book, *grant);
         let other = self.plain.grant(*grant);
         expect(made.is_ok() == other.is_ok())?;
@@ -59,7 +55,7 @@ impl Both {
     }
 
     /// Makes a revocation, and returns the records that end.
-    pub fn take(&mut self, alloc: Global, taken: &Revocation) -> Result<String, TrialFault> {
+    pub fn take(&mut self, alloc: Global, taken: &Revocation) -> Attempt<String> {
         let ended = take(alloc, &mut self.book, taken)?;
         let others = self.plain.revoke(alloc, taken)?;
         agreed(alloc, &ended, &others)

@@ -3,7 +3,7 @@
 use read_ahead::{Ahead, Found, Piece, foretell_lines, piece_cuts};
 use sequencer::Catalog;
 use std::alloc::{AllocError, Global};
-use trials_base::{TrialFault, log_of};
+use trials_base::{Attempt, log_of};
 
 /// Lines whose names are known from the second on: what they ask for is foretold, but for a new user, a new table, a new grantee and a
 /// column that isn't there.
@@ -29,7 +29,7 @@ fn found_text(alloc: Global, line: &Ahead) -> Result<String, AllocError> {
 }
 
 /// Prints what is found of the lines of a piece.
-fn print_piece(rt: &impl Print, alloc: Global, piece: &Piece) -> Result<(), TrialFault> {
+fn print_piece(rt: &impl Print, alloc: Global, piece: &Piece) -> Attempt<()> {
     for line in piece.lines() {
         println!(rt; "a line read ahead: {}", found_text(alloc, line)?)?;
     }
@@ -38,7 +38,7 @@ fn print_piece(rt: &impl Print, alloc: Global, piece: &Piece) -> Result<(), Tria
 
 /// Prints what is found of lines by these names, once more of the first with the lists of the first time, where pieces of them begin,
 /// and what other names catch up.
-fn print_by(rt: &impl Print, alloc: Global, catalog: &Catalog) -> Result<(), TrialFault> {
+fn print_by(rt: &impl Print, alloc: Global, catalog: &Catalog) -> Attempt<()> {
     let bytes = LINES.as_bytes();
     let piece = foretell_lines(alloc, catalog, bytes, 0, bytes.len(), Piece::new(alloc));
     print_piece(rt, alloc, &piece)?;
@@ -54,7 +54,7 @@ fn print_by(rt: &impl Print, alloc: Global, catalog: &Catalog) -> Result<(), Tri
 }
 
 /// Prints what is found of lines by the names of two earlier ones.
-pub fn print_foretold_lines(rt: &impl Print, alloc: Global) -> Result<(), TrialFault> {
+pub fn print_foretold_lines(rt: &impl Print, alloc: Global) -> Attempt<()> {
     let log = log_of(
         alloc,
         &["alice CREATE t 2", "alice GRANT READ t bob OPTION"],

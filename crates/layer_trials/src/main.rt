@@ -22,37 +22,55 @@ use sequencer::Log;
 use std::alloc::Global;
 use std::process::ExitCode;
 use std::rt::Files;
-use trials_base::{TrialFault, read_file, text_of, words_of};
+use trials_base::{Attempt, read_file, text_of, words_of};
 
-/// Prints the cases of a file, each with what it results in on a store of versions, or on books of grants.
-fn print_cases<R: Files + Print>(
+/// What the cases of a file are made on.
+trait Cases {
+    /// Makes the case of these words, and says what it results in.
+    fn outcome(&mut self, alloc: Global, words: &[&str]) -> Attempt<String>;
+}
+
+impl Cases for Chains {
+    fn outcome(&mut self, alloc: Global, words: &[&str]) -> Attempt<String> {
+        versions::outcome(alloc, self, words)
+    }
+}
+
+impl Cases for Both {
+    fn outcome(&mut self, alloc: Global, words: &[&str]) -> Attempt<String> {
+        book::outcome(alloc, self, words)
+    }
+}
+
+/// Prints the case of a line with what it results in.
+fn print_case<C: Cases>(rt: &impl Print, alloc: Global, cases: &mut C, line: &str) -> Attempt<()> {
+    let words = words_of(alloc, line)?;
+    if words.is_empty() {
+        return Ok(());
+    }
+    match cases.outcome(alloc, words.as_slice()) {
+        Ok(outcome) => println!(rt; "{line}: {outcome}")?,
+        Err(fault) => println!(rt; "{line}: {fault}")?,
+    }
+    Ok(())
+}
+
+/// Prints the cases of a file one after another.
+fn print_cases<R: Files + Print, C: Cases>(
     rt: &R,
     alloc: Global,
+    cases: &mut C,
     path: &str,
-    of_books: bool,
-) -> Result<(), TrialFault> {
+) -> Attempt<()> {
     let bytes = read_file(rt, alloc, path)?;
-    let (mut chains, mut both) = (Chains::new(alloc), Both::new(alloc));
     for line in text_of(bytes.as_slice())?.split('\n') {
-        let words = words_of(alloc, line)?;
-        if words.is_empty() {
-            continue;
-        }
-        let outcome = if of_books {
-            book::outcome(alloc, &mut both, words.as_slice())
-        } else {
-            versions::outcome(alloc, &mut chains, words.as_slice())
-        };
-        match outcome {
-            Ok(outcome) => println!(rt; "{line}: {outcome}")?,
-            Err(fault) => println!(rt; "{line}: {fault}")?,
-        }
+        print_case(rt, alloc, cases, line)?;
     }
     Ok(())
 }
 
 /// Prints the statements of a log of version 2, of which only that version has the second.
-fn print_second_version(rt: &impl Print, alloc: Global) -> Result<(), TrialFault> {
+fn print_second_version(rt: &impl Print, alloc: Global) -> Attempt<()> {
     let mut log = Log::with(alloc, Version::Two);
     for line in ["ann CREATE t 1", "ann GRANT READ,INSERT t bob,PUBLIC"] {
         log.push(&parse_line_in(alloc, log.catalog().version(), line.as_bytes())?)?;
@@ -62,12 +80,12 @@ fn print_second_version(rt: &impl Print, alloc: Global) -> Result<(), TrialFault
 }
 
 /// Prints the trials one after another.
-fn run<R: Files + Print>(rt: &R, alloc: Global) -> Result<(), TrialFault> {
+fn run<R: Files + Print>(rt: &R, alloc: Global) -> Attempt<()> {
     print_batch_references(rt, alloc)?;
     print_foretold_lines(rt, alloc)?;
     print_second_version(rt, alloc)?;
-    print_cases(rt, alloc, "versions.cases", false)?;
-    print_cases(rt, alloc, "book.cases", true)
+    print_cases(rt, alloc, &mut Chains::new(alloc), "versions.cases")?;
+    print_cases(rt, alloc, &mut Both::new(alloc), "book.cases")
 }
 
 fn main(rt: HostRuntime) -> ExitCode {

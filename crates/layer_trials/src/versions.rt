@@ -5,10 +5,10 @@ ghost use Rattle.std.specs.Prelude.{◌≡◌};
 use chains::{Chains, Trimmed, Version};
 use model_base::{Key, Place, Row, Table};
 use std::alloc::{AllocError, Global};
-use trials_base::{TrialFault, count_of, number_of};
+use trials_base::{Attempt, TrialFault, count_of, number_of};
 
 /// The row of a version: of one number, if there is one.
-fn row_of(is_there: bool, words: &[&str]) -> Result<Option<Row>, TrialFault> {
+fn row_of(is_there: bool, words: &[&str]) -> Attempt<Option<Row>> {
     if !is_there {
         return Ok(None);
     }
@@ -18,7 +18,7 @@ fn row_of(is_there: bool, words: &[&str]) -> Result<Option<Row>, TrialFault> {
 }
 
 /// A row, by its number after that of its table.
-fn key_of(words: &[&str], index: usize) -> Result<Key, TrialFault> {
+fn key_of(words: &[&str], index: usize) -> Attempt<Key> {
     Ok(Key {
         table: Table(count_of(words, index)?),
         row: count_of(words, index.saturating_add(1))?,
@@ -26,12 +26,7 @@ fn key_of(words: &[&str], index: usize) -> Result<Key, TrialFault> {
 }
 
 /// Appends one version, after which the store ends here.
-fn put(
-    alloc: Global,
-    chains: &mut Chains,
-    version: Version,
-    new_end: Place,
-) -> Result<(), TrialFault> {
+fn put(alloc: Global, chains: &mut Chains, version: Version, new_end: Place) -> Attempt<()> {
     if version.place < chains.end() || new_end <= version.place {
         return Err(TrialFault::Call);
     }
@@ -53,7 +48,7 @@ fn row_text(alloc: Global, chains: &Chains, place: Place, key: Key) -> Result<St
 
 /// Makes a case on a store, and says what it results in: `new`; `put PLACE TABLE ROW END VALUE` and `delete PLACE TABLE ROW END`, which
 /// append a version; `row TABLE ROW PLACE`; `trim MARK`; `sweep`; `bounds`.
-pub fn outcome(alloc: Global, chains: &mut Chains, words: &[&str]) -> Result<String, TrialFault> {
+pub fn outcome(alloc: Global, chains: &mut Chains, words: &[&str]) -> Attempt<String> {
     let [verb, words @ ..] = words else {
         return Err(TrialFault::NotText);
     };

@@ -1,10 +1,10 @@
 //! Events as words.
 
 use bohm_core_base::Event;
-use trials_base::{TrialFault, number_of};
+use trials_base::{Attempt, TrialFault, number_of};
 
 /// The event that words ask for: `place PARTITION`, `claim`, `fill`, `back` or `finish ACTOR INDEX`, `end ACTOR INDEX SLOT`.
-pub fn event_of(words: &[&str]) -> Result<Event, TrialFault> {
+pub fn event_of(words: &[&str]) -> Attempt<Event> {
     let [verb, words @ ..] = words else {
         return Err(TrialFault::NotText);
     };

@@ -5,21 +5,25 @@
 //! printed is compared with `stdout`.
 #![tactic(auto)]
 
-ghost use Rattle.std.specs.Prelude.{◌<◌, ◌≤◌};
+ghost use Rattle.std.specs.Prelude.{◌<◌, ◌≤◌, length};
 ghost use Rattle.model_base.specs.declared.limits.TheConstants.{MOST_PARTITIONS};
+ghost use Rattle.engine.specs.RunState.{IsRunState};
 
 mod events;
 mod telling;
 mod two_words;
 
 use bohm_core::Machine;
+use engine::RunState;
 use log_machine::OfLog;
 use model_base::Place;
 use std::alloc::Global;
 use std::process::ExitCode;
 use std::rt::Files;
 use telling::{print_events, print_found};
-use trials_base::{TrialFault, WholeLog, before_place, log_of, new_batch, read_file, text_of};
+use trials_base::{
+    Attempt, TrialFault, WholeLog, before_place, log_of, new_batch, read_file, text_of,
+};
 use two_words::print_two_words;
 
 /// The worked log: a reader, and after it the revocation of the grant by which it reads.
@@ -31,6 +35,35 @@ const WORKED: [&str; 5] = [
     "alice REVOKE READ t bob",
 ];
 
+/// The machine over the places of a log from one on, which this many partitions place, before any event.
+fn machine_of<'a>(
+    alloc: Global,
+    log: &'a WholeLog,
+    before: &'a RunState,
+    first: Place,
+    partitions: usize,
+) -> Attempt<Machine<OfLog<'a>>>
+    requires some { 0 < partitions }
+    requires few { partitions ≤ MOST_PARTITIONS }
+    requires within { first ≤ length log.now.statements }
+    requires before { IsRunState log.now.statements first before.now.chains before.now.book }
+{
+    let batch = new_batch(alloc, log, before, first..log.len(), partitions)?;
+    Ok(Machine::new(alloc, OfLog::new(batch))?)
+}
+
+/// Prints the events of a file as a machine makes them, and what is found then.
+fn print_file<R: Files + Print>(
+    rt: &R,
+    alloc: Global,
+    machine: &mut Machine<OfLog<'_>>,
+    path: &str,
+) -> Attempt<()> {
+    let events = read_file(rt, alloc, path)?;
+    print_events(rt, alloc, machine, text_of(events.as_slice())?)?;
+    print_found(rt, alloc, machine)
+}
+
 /// Prints the events of a file on the places of the log from one on, which this many partitions place.
 fn try_range<R: Files + Print>(
     rt: &R,
@@ -39,7 +72,7 @@ fn try_range<R: Files + Print>(
     path: &str,
     first: Place,
     partitions: usize,
-) -> Result<(), TrialFault>
+) -> Attempt<()>
     requires some { 0 < partitions }
     requires few { partitions ≤ MOST_PARTITIONS }
 {
@@ -47,21 +80,22 @@ fn try_range<R: Files + Print>(
         return Err(TrialFault::Call);
     }
     println!(rt; "{path}")?;
-    let events = read_file(rt, alloc, path)?;
     let before = before_place(alloc, log, first)?;
-    let batch = new_batch(alloc, log, &before, first..log.len(), partitions)?;
-    let mut machine = Machine::new(alloc, OfLog::new(batch))?;
-    print_events(rt, alloc, &mut machine, text_of(events.as_slice())?)?;
-    print_found(rt, alloc, &machine)
+    let mut machine = machine_of(alloc, log, &before, first, partitions)?;
+    print_file(rt, alloc, &mut machine, path)
 }
 
-/// Prints the trials one after another.
-fn run<R: Files + Print>(rt: &R, alloc: Global) -> Result<(), TrialFault> {
-    let log = log_of(alloc, &WORKED)?;
-    try_range(rt, alloc, &log, "whole.events", 0, 1)?;
-    try_range(rt, alloc, &log, "parted.events", 0, 3)?;
-    try_range(rt, alloc, &log, "middle.events", 3, 1)?;
-    print_two_words(rt, alloc, &log)
+/// Prints the trials of a log one after another.
+fn try_log<R: Files + Print>(rt: &R, alloc: Global, log: &WholeLog) -> Attempt<()> {
+    try_range(rt, alloc, log, "whole.events", 0, 1)?;
+    try_range(rt, alloc, log, "parted.events", 0, 3)?;
+    try_range(rt, alloc, log, "middle.events", 3, 1)?;
+    print_two_words(rt, alloc, log)
+}
+
+/// Prints the trials of the worked log.
+fn run<R: Files + Print>(rt: &R, alloc: Global) -> Attempt<()> {
+    try_log(rt, alloc, &log_of(alloc, &WORKED)?)
 }
 
 fn main(rt: HostRuntime) -> ExitCode {

@@ -5,7 +5,7 @@ use bohm_core::{Machine, State};
 use bohm_core_base::Event;
 use log_machine::{OfLog, done_outcome, done_words};
 use std::alloc::{AllocError, Global};
-use trials_base::{TrialFault, words_of};
+use trials_base::{Attempt, words_of};
 
 /// What the event is about, as it is stored now.
 fn concerned(alloc: Global, state: &State, event: Event) -> Result<String, AllocError> {
@@ -37,7 +37,7 @@ fn print_event(
     machine: &mut Machine<OfLog<'_>>,
     line: &str,
     event: Event,
-) -> Result<(), TrialFault> {
+) -> Attempt<()> {
     let before = concerned(alloc, machine.state(), event)?;
     machine.apply(&event)?;
     let now = concerned(alloc, machine.state(), event)?;
@@ -55,7 +55,7 @@ pub fn print_events(
     alloc: Global,
     machine: &mut Machine<OfLog<'_>>,
     text: &str,
-) -> Result<(), TrialFault> {
+) -> Attempt<()> {
     for line in text.split('\n') {
         let words = words_of(alloc, line)?;
         if !words.is_empty() {
@@ -71,7 +71,7 @@ fn print_place(
     alloc: Global,
     machine: &Machine<OfLog<'_>>,
     index: usize,
-) -> Result<(), TrialFault> {
+) -> Attempt<()> {
     let Some(outcome) = done_outcome(alloc, machine, index)? else {
         return Ok(println!(rt; "index {index} is not done")?);
     };
@@ -82,7 +82,7 @@ fn print_place(
 }
 
 /// Prints where the record of each slot ended.
-fn print_slots(rt: &impl Print, machine: &Machine<OfLog<'_>>) -> Result<(), TrialFault> {
+fn print_slots(rt: &impl Print, machine: &Machine<OfLog<'_>>) -> Attempt<()> {
     for slot in 0..machine.statements().batch().slot_count() {
         let place = machine.statements().batch().grant(slot).place;
         let end = machine.state().end(slot);
@@ -92,11 +92,7 @@ fn print_slots(rt: &impl Print, machine: &Machine<OfLog<'_>>) -> Result<(), Tria
 }
 
 /// Reports what all places and records resulted in.
-pub fn print_found(
-    rt: &impl Print,
-    alloc: Global,
-    machine: &Machine<OfLog<'_>>,
-) -> Result<(), TrialFault> {
+pub fn print_found(rt: &impl Print, alloc: Global, machine: &Machine<OfLog<'_>>) -> Attempt<()> {
     for index in 0..machine.statements().batch().size() {
         print_place(rt, alloc, machine, index)?;
     }

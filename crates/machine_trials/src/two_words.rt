@@ -12,7 +12,7 @@ use engine::RunState;
 use filling::{CompletedBatch, Finished, RangeKey, finish};
 use log_batch::LogBatch;
 use std::alloc::{AllocError, Global};
-use trials_base::{TrialFault, WholeLog, before_place, new_batch};
+use trials_base::{Attempt, TrialFault, WholeLog, before_place, new_batch};
 use words::{BatchData, BatchWords, Claimed, Holding, Pass, own_events_tell_what_is_held};
 
 /// The key of the two places.
@@ -85,7 +85,7 @@ fn print_dropped(
     words: &BatchWords<RangeKey<'_>>,
     pass: Pass,
     own: &[u64],
-) -> Result<(), TrialFault>
+) -> Attempt<()>
     requires key { words.now.key ≡ key.now }
     requires size { words.now.key.batch.size ≡ 2 }
     requires own { own.now ≡ serial_words (batch_of words.now.key.batch) 0 }
@@ -111,7 +111,7 @@ fn print_dropped(
 }
 
 /// Reports what each of the two places is when the batch is finished.
-fn print_finished(rt: &impl Print, done: &Finished<'_>) -> Result<(), TrialFault>
+fn print_finished(rt: &impl Print, done: &Finished<'_>) -> Attempt<()>
     requires { done.now.size ≡ 2 }
 {
     let (reader, revocation) = (done.own(0), done.own(1));
@@ -127,7 +127,7 @@ fn print_closed(
     key: RangeKey<'_>,
     words: BatchWords<RangeKey<'_>>,
     pass: Pass,
-) -> Result<(), TrialFault>
+) -> Attempt<()>
     requires key { words.key ≡ key }
     requires same_table { IsPassOf words pass }
     requires size { key.batch.size ≡ 2 }
@@ -143,12 +143,7 @@ fn print_closed(
 }
 
 /// Reports the words of the two places, of which the first has these own words by the serial run.
-fn print_words(
-    rt: &impl Print,
-    alloc: Global,
-    key: RangeKey<'_>,
-    own: &[u64],
-) -> Result<(), TrialFault>
+fn print_words(rt: &impl Print, alloc: Global, key: RangeKey<'_>, own: &[u64]) -> Attempt<()>
     requires placed { key.batch.placed ≡ true }
     requires size { key.batch.size ≡ 2 }
     requires own { own.now ≡ serial_words (batch_of key.batch) 0 }
@@ -159,15 +154,23 @@ fn print_words(
     print_closed(rt, alloc, key, words, last)
 }
 
+/// Reports the two places when they are finished after words of which nothing is stored, and then their words.
+fn print_both(rt: &impl Print, alloc: Global, log: &WholeLog, before: &RunState) -> Attempt<()>
+    requires within { 5 ≤ length log.now.statements }
+    requires before { IsRunState log.now.statements 3 before.now.chains before.now.book }
+{
+    let done = finish_unstored(alloc, key_of(alloc, log, before)?)?;
+    print_finished(rt, &done)?;
+    let key = key_of(alloc, log, before)?;
+    let own = serial_own(&done, key.batch());
+    print_words(rt, alloc, key, own)
+}
+
 /// Reports the reader, at place 3 of the log.
-pub fn print_two_words(rt: &impl Print, alloc: Global, log: &WholeLog) -> Result<(), TrialFault> {
+pub fn print_two_words(rt: &impl Print, alloc: Global, log: &WholeLog) -> Attempt<()> {
     if log.len() < 5 {
         return Err(TrialFault::Call);
     }
     let before = before_place(alloc, log, 3)?;
-    let done = finish_unstored(alloc, key_of(alloc, log, &before)?)?;
-    print_finished(rt, &done)?;
-    let key = key_of(alloc, log, &before)?;
-    let own = serial_own(&done, key.batch());
-    print_words(rt, alloc, key, own)
+    print_both(rt, alloc, log, &before)
 }

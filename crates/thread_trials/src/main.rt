@@ -17,23 +17,26 @@ use std::process::ExitCode;
 use std::rt::Files;
 use std::sync::Wait;
 use std::thread::Threads;
-use trials::{Trial, print_rounds, try_chain, try_file};
-use trials_base::TrialFault;
+use trials::{Placed, Placing, Trial, print_rounds, try_chain, try_file};
+use trials_base::Attempt;
 
 /// Tells the rows of calls, and then what threads do.
-fn run<R: Files + Threads + Wait + Print + Sync>(rt: &R, alloc: Global) -> Result<(), TrialFault> {
+fn run<R: Files + Threads + Wait + Print + Sync>(rt: &R, alloc: Global) -> Attempt<()> {
     for path in [
         "words", "dropped", "opened", "later", "held", "given", "after", "early",
     ] {
         try_file(rt, alloc, path)?;
     }
-    try_chain(rt, alloc, 65_536, 1, Trial::Row("run 65537\nbodies\n"))?;
-    try_chain(rt, alloc, 1000, 1, Trial::Claiming)?;
+    let bodies = Placed::Row("run 65537\nbodies\n");
+    try_chain(rt, alloc, 65_536, 1, Trial::OncePlaced(bodies))?;
+    try_chain(rt, alloc, 1000, 1, Trial::OncePlaced(Placed::Claiming))?;
     for workers in [0, 1, 2, 3, 8] {
-        try_chain(rt, alloc, 1000, 7, Trial::Workers(workers))?;
+        let trial = Trial::WhilePlaced(Placing::Workers(workers));
+        try_chain(rt, alloc, 1000, 7, trial)?;
     }
-    try_chain(rt, alloc, 4096, 64, Trial::Workers(64))?;
-    try_chain(rt, alloc, 4096, 64, Trial::WorkersOncePlaced(64))?;
+    let trial = Trial::WhilePlaced(Placing::Workers(64));
+    try_chain(rt, alloc, 4096, 64, trial)?;
+    try_chain(rt, alloc, 4096, 64, Trial::OncePlaced(Placed::Workers(64)))?;
     print_rounds(rt, alloc)
 }
 

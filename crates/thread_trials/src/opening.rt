@@ -11,7 +11,7 @@ use filling_base::Batch;
 use log_batch::{BatchRange, LogBatch, StateBefore};
 use model_base::{MOST_PARTITIONS, Place};
 use std::alloc::Global;
-use trials_base::{TrialFault, WholeLog};
+use trials_base::{Attempt, TrialFault, WholeLog};
 use words::{BatchData, Pass};
 
 /// The words of the places of a log from one on, of which nothing is placed, with their first pass and their placers.
@@ -21,7 +21,7 @@ pub fn opened<'a>(
     before: &'a RunState,
     first: Place,
     partitions: usize,
-) -> Result<(Batch<RangeKey<'a>>, Pass, Vec<Placer>), TrialFault>
+) -> Attempt<(Batch<RangeKey<'a>>, Pass, Vec<Placer>)>
     requires partitions { 0 < partitions }
     requires few { partitions ≤ MOST_PARTITIONS }
     requires within { first < length log.now.statements }
@@ -62,11 +62,7 @@ fn place_each(batch: &Batch<RangeKey<'_>>, mut placers: Vec<Placer>)
 }
 
 /// Places all of a batch. Returns the pass, which knows so.
-pub fn placed(
-    batch: &Batch<RangeKey<'_>>,
-    pass: Pass,
-    placers: Vec<Placer>,
-) -> Result<Pass, TrialFault>
+pub fn placed(batch: &Batch<RangeKey<'_>>, pass: Pass, placers: Vec<Placer>) -> Attempt<Pass>
     requires pass { IsPassOf batch.now pass }
     requires placers { All (IsPlacerIn batch.now) placers.items }
     ensures { IfOk result (λ pass. IsPassOf batch.now pass) }

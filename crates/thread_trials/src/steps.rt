@@ -8,7 +8,7 @@ use filling::{Placer, RangeKey, run_place};
 use filling_base::Batch;
 use model_base::Place;
 use std::alloc::Global;
-use trials_base::{TrialFault, number_of, words_of};
+use trials_base::{Attempt, TrialFault, number_of, words_of};
 use words::{BatchData, Claimed, Holding, Pass, Seen, passes_keep_what_they_know};
 
 /// Asks for the place of an index, and says what it is.
@@ -17,7 +17,7 @@ fn print_asked(
     batch: &Batch<RangeKey<'_>>,
     pass: Pass,
     index: usize,
-) -> Result<Pass, TrialFault>
+) -> Attempt<Pass>
     requires { IsPassOf batch.now pass }
     ensures { IfOk result (λ pass. IsPassOf batch.now pass) }
 {
@@ -35,7 +35,7 @@ fn print_run(
     batch: &Batch<RangeKey<'_>>,
     pass: Pass,
     place: Place,
-) -> Result<Pass, TrialFault>
+) -> Attempt<Pass>
     requires { IsPassOf batch.now pass }
     ensures { IfOk result (λ pass. IsPassOf batch.now pass) }
 {
@@ -56,7 +56,7 @@ fn print_claim(
     pass: Pass,
     index: usize,
     is_dropped: bool,
-) -> Result<(), TrialFault>
+) -> Attempt<()>
     requires { IsPassOf batch.now pass }
 {
     let mut holding = Holding::begin(pass);
@@ -74,12 +74,7 @@ fn print_claim(
 }
 
 /// Looks at the place of an index, and says what the pass finds: of a place that is done its first word, and the first listed end.
-fn print_look(
-    rt: &impl Print,
-    batch: &Batch<RangeKey<'_>>,
-    pass: Pass,
-    index: usize,
-) -> Result<(), TrialFault>
+fn print_look(rt: &impl Print, batch: &Batch<RangeKey<'_>>, pass: Pass, index: usize) -> Attempt<()>
     requires { IsPassOf batch.now pass }
 {
     passes_keep_what_they_know();
@@ -109,7 +104,7 @@ fn print_other(
     other: Pass,
     verb: &str,
     index: usize,
-) -> Result<(), TrialFault>
+) -> Attempt<()>
     requires { IsPassOf batch.now other }
 {
     match verb {
@@ -128,7 +123,7 @@ fn print_step(
     batch: &Batch<RangeKey<'_>>,
     pass: Pass,
     words: &[&str],
-) -> Result<Pass, TrialFault>
+) -> Attempt<Pass>
     requires { IsPassOf batch.now pass }
     ensures { IfOk result (λ pass. IsPassOf batch.now pass) }
 {
@@ -162,7 +157,7 @@ fn print_steps(
     batch: &Batch<RangeKey<'_>>,
     pass: Pass,
     steps: &str,
-) -> Result<Pass, TrialFault>
+) -> Attempt<Pass>
     requires { IsPassOf batch.now pass }
     ensures { IfOk result (λ pass. IsPassOf batch.now pass) }
 {
@@ -182,7 +177,7 @@ fn print_held(
     pass: Pass,
     index: usize,
     steps: &str,
-) -> Result<Pass, TrialFault>
+) -> Attempt<Pass>
     requires { IsPassOf batch.now pass }
     ensures { IfOk result (λ pass. IsPassOf batch.now pass) }
 {
@@ -210,7 +205,7 @@ pub fn print_row(
     batch: &Batch<RangeKey<'_>>,
     pass: Pass,
     steps: &str,
-) -> Result<Pass, TrialFault>
+) -> Attempt<Pass>
     requires { IsPassOf batch.now pass }
     ensures { IfOk result (λ pass. IsPassOf batch.now pass) }
 {
@@ -226,11 +221,7 @@ pub fn print_row(
 }
 
 /// Reports a step of a placer.
-fn print_placing(
-    rt: &impl Print,
-    batch: &Batch<RangeKey<'_>>,
-    placer: &mut Placer,
-) -> Result<(), TrialFault>
+fn print_placing(rt: &impl Print, batch: &Batch<RangeKey<'_>>, placer: &mut Placer) -> Attempt<()>
     requires { IsPlacerIn batch.now placer.old }
     ensures { IsPlacerIn batch.now placer.new }
 {
@@ -248,7 +239,7 @@ pub fn print_turns(
     pass: Pass,
     mut placers: Vec<Placer>,
     steps: &str,
-) -> Result<(), TrialFault>
+) -> Attempt<()>
     requires pass { IsPassOf batch.now pass }
     requires placers { All (IsPlacerIn batch.now) placers.items }
 {

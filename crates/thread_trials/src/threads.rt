@@ -8,7 +8,7 @@ use filling::RangeKey;
 use filling_base::{Batch, Fills};
 use std::thread;
 use std::thread::Threads;
-use trials_base::TrialFault;
+use trials_base::Attempt;
 use words::{BatchData, Claimed, HELD, Holding, Pass};
 
 /// How many places the pass wins. It is dropped then.
@@ -55,7 +55,7 @@ pub fn print_claiming<R: Threads + Print + Sync>(
     rt: &R,
     batch: Batch<RangeKey<'_>>,
     pass: Pass,
-) -> Result<(), TrialFault>
+) -> Attempt<()>
     requires { IsPassOf batch pass }
 {
     let places = batch.key().places();

@@ -17,27 +17,86 @@ use std::rt::Files;
 use std::sync::Wait;
 use std::thread::Threads;
 use trials_base::{
-    TrialFault, WholeLog, adding_log, before_place, log_of, number_of, read_file, text_of, words_of,
+    Attempt, TrialFault, WholeLog, adding_log, before_place, log_of, number_of, read_file, text_of,
+    words_of,
 };
 use words::Pass;
 
 /// What is tried on a batch.
 #[derive(Clone, Copy)]
 pub enum Trial<'a> {
-    /// A row of calls, once all is placed.
-    Row(&'a str),
+    WhilePlaced(Placing<'a>),
+    OncePlaced(Placed<'a>),
+}
+
+/// What is tried on a batch while it is placed.
+#[derive(Clone, Copy)]
+pub enum Placing<'a> {
     /// A row of calls while partitions place.
     Turns(&'a str),
-    /// A row of calls, once all is placed, after which the words are closed.
+    /// So many workers place and run a chain.
+    Workers(usize),
+    /// So many workers place and run places that add to as many rows. Its value is how many come out right.
+    Round(usize),
+}
+
+/// What is tried on a batch that is placed.
+#[derive(Clone, Copy)]
+pub enum Placed<'a> {
+    /// A row of calls.
+    Row(&'a str),
+    /// A row of calls, after which the words are closed.
     Closed(&'a str),
     /// Threads claim all places.
     Claiming,
-    /// So many workers place and run a chain.
+    /// So many workers run a chain.
     Workers(usize),
-    /// So many workers run a chain, once all is placed.
-    WorkersOncePlaced(usize),
-    /// So many workers place and run places that add to as many rows. Its value is how many come out right.
-    Round(usize),
+}
+
+/// Makes a trial on a batch that is placed.
+fn try_placed<R: Threads + Wait + Print + Sync>(
+    rt: &R,
+    alloc: Global,
+    batch: Batch<RangeKey<'_>>,
+    pass: Pass,
+    trial: Placed<'_>,
+) -> Attempt<()>
+    requires { IsPassOf batch pass }
+{
+    match trial {
+        Placed::Row(steps) => {
+            let _pass = print_row(rt, alloc, &batch, pass, steps)?;
+            Ok(())
+        }
+        Placed::Closed(steps) => {
+            let pass = print_row(rt, alloc, &batch, pass, steps)?;
+            print_closed(rt, alloc, batch, pass)
+        }
+        Placed::Claiming => print_claiming(rt, batch, pass),
+        Placed::Workers(workers) => {
+            print_workers(rt, alloc, &batch, pass, Vec::new(alloc), workers)
+        }
+    }
+}
+
+/// Makes a trial on a batch while it is placed. Returns its value.
+fn try_placing<R: Threads + Wait + Print + Sync>(
+    rt: &R,
+    alloc: Global,
+    batch: &Batch<RangeKey<'_>>,
+    pass: Pass,
+    placers: Vec<Placer>,
+    trial: Placing<'_>,
+) -> Attempt<usize>
+    requires pass { IsPassOf batch.now pass }
+    requires placers { All (IsPlacerIn batch.now) placers.items }
+{
+    match trial {
+        Placing::Turns(steps) => print_turns(rt, alloc, batch, pass, placers, steps)?,
+        Placing::Workers(workers) => print_workers(rt, alloc, batch, pass, placers, workers)?,
+        Placing::Round(workers) => return Ok(count_round(rt, alloc, batch, pass, placers, workers)),
+    }
+    Ok(0)
 }
 
 /// Makes a trial on a batch of a log. Returns its value.
@@ -48,33 +107,18 @@ fn try_opened<R: Threads + Wait + Print + Sync>(
     pass: Pass,
     placers: Vec<Placer>,
     trial: Trial<'_>,
-) -> Result<usize, TrialFault>
+) -> Attempt<usize>
     requires pass { IsPassOf batch pass }
     requires placers { All (IsPlacerIn batch) placers.items }
 {
     match trial {
-        Trial::Turns(steps) => print_turns(rt, alloc, &batch, pass, placers, steps)?,
-        Trial::Workers(workers) => print_workers(rt, alloc, &batch, pass, placers, workers)?,
-        Trial::Round(workers) => return Ok(count_round(rt, alloc, &batch, pass, placers, workers)),
-        Trial::Row(steps) => {
+        Trial::WhilePlaced(trial) => try_placing(rt, alloc, &batch, pass, placers, trial),
+        Trial::OncePlaced(trial) => {
             let pass = placed(&batch, pass, placers)?;
-            let _pass = print_row(rt, alloc, &batch, pass, steps)?;
-        }
-        Trial::Closed(steps) => {
-            let pass = placed(&batch, pass, placers)?;
-            let pass = print_row(rt, alloc, &batch, pass, steps)?;
-            print_closed(rt, alloc, batch, pass)?;
-        }
-        Trial::Claiming => {
-            let pass = placed(&batch, pass, placers)?;
-            print_claiming(rt, batch, pass)?;
-        }
-        Trial::WorkersOncePlaced(workers) => {
-            let pass = placed(&batch, pass, placers)?;
-            print_workers(rt, alloc, &batch, pass, Vec::new(alloc), workers)?;
+            try_placed(rt, alloc, batch, pass, trial)?;
+            Ok(0)
         }
     }
-    Ok(0)
 }
 
 /// Makes a trial on the places of a log from one on, which this many partitions place. Returns its value.
@@ -85,7 +129,7 @@ fn try_log<R: Threads + Wait + Print + Sync>(
     first: Place,
     partitions: usize,
     trial: Trial<'_>,
-) -> Result<usize, TrialFault>
+) -> Attempt<usize>
     requires partitions { 0 < partitions }
     requires few { partitions ≤ MOST_PARTITIONS }
 {
@@ -104,7 +148,7 @@ pub fn try_chain<R: Threads + Wait + Print + Sync>(
     places: usize,
     partitions: usize,
     trial: Trial<'_>,
-) -> Result<(), TrialFault>
+) -> Attempt<()>
     requires partitions { 0 < partitions }
     requires few { partitions ≤ MOST_PARTITIONS }
 {
@@ -113,45 +157,67 @@ pub fn try_chain<R: Threads + Wait + Print + Sync>(
     Ok(())
 }
 
-/// Makes the trial of a file: the lines of a log, a line `batch FIRST PARTITIONS`, with `open` after it if it is to be placed by the steps,
+/// The trial of a file.
+#[derive(Clone, Copy)]
+struct TrialFile<'a> {
+    lines: &'a str,
+    /// The first place of the batch.
+    first: Place,
+    partitions: usize,
+    trial: Trial<'a>,
+}
+
+/// Reads the trial of a file: the lines of a log, a line `batch FIRST PARTITIONS`, with `open` after it if it is to be placed by the steps,
 /// or `close` if its words are to be closed after them, and the steps of a row.
+fn parse_trial(alloc: Global, text: &str) -> Attempt<TrialFile<'_>> {
+    let (lines, rest) = text.split_once("batch ").ok_or(TrialFault::NotText)?;
+    let (range, steps) = rest.split_once('\n').ok_or(TrialFault::NotText)?;
+    let words = words_of(alloc, range)?;
+    Ok(TrialFile {
+        lines: lines.trim_end_matches('\n'),
+        first: number_of(words.as_slice(), 0)?,
+        partitions: number_of(words.as_slice(), 1)? as usize,
+        trial: match words.get(2).copied().unwrap_or("") {
+            "open" => Trial::WhilePlaced(Placing::Turns(steps)),
+            "close" => Trial::OncePlaced(Placed::Closed(steps)),
+            _ => Trial::OncePlaced(Placed::Row(steps)),
+        },
+    })
+}
+
+/// The log of these lines.
+fn log_of_lines(alloc: Global, lines: &str) -> Attempt<WholeLog> {
+    let lines = lines.split('\n').collect::<Vec<&str>>(alloc)?;
+    log_of(alloc, lines.as_slice())
+}
+
+/// Makes the trial that a text describes.
+fn try_text<R: Threads + Wait + Print + Sync>(rt: &R, alloc: Global, text: &str) -> Attempt<()> {
+    let file = parse_trial(alloc, text)?;
+    let partitions = file.partitions.clamp(1, MOST_PARTITIONS);
+    let log = log_of_lines(alloc, file.lines)?;
+    let _value = try_log(rt, alloc, &log, file.first, partitions, file.trial)?;
+    Ok(())
+}
+
+/// Makes the trial of a file.
 pub fn try_file<R: Files + Threads + Wait + Print + Sync>(
     rt: &R,
     alloc: Global,
     path: &str,
-) -> Result<(), TrialFault> {
+) -> Attempt<()> {
     println!(rt; "{path}")?;
     let text = read_file(rt, alloc, path)?;
-    let (lines, rest) = text_of(text.as_slice())?
-        .split_once("batch ")
-        .ok_or(TrialFault::NotText)?;
-    let (range, steps) = rest.split_once('\n').ok_or(TrialFault::NotText)?;
-    let lines = lines.trim_end_matches('\n');
-    let log = log_of(
-        alloc,
-        lines.split('\n').collect::<Vec<&str>>(alloc)?.as_slice(),
-    )?;
-    let words = words_of(alloc, range)?;
-    let first = number_of(words.as_slice(), 0)?;
-    let partitions = number_of(words.as_slice(), 1)?.clamp(1, 64) as usize;
-    let trial = match words.get(2).copied().unwrap_or("") {
-        "open" => Trial::Turns(steps),
-        "close" => Trial::Closed(steps),
-        _ => Trial::Row(steps),
-    };
-    let _value = try_log(rt, alloc, &log, first, partitions, trial)?;
-    Ok(())
+    try_text(rt, alloc, text_of(text.as_slice())?)
 }
 
 /// Tells in how many rounds all came out right on places that add to rows, each time as a new batch, by as many workers and placers.
-pub fn print_rounds<R: Threads + Wait + Print + Sync>(
-    rt: &R,
-    alloc: Global,
-) -> Result<(), TrialFault> {
+pub fn print_rounds<R: Threads + Wait + Print + Sync>(rt: &R, alloc: Global) -> Attempt<()> {
     let log = adding_log(alloc, 1 + 16 + 4096, 16)?;
+    let round = Trial::WhilePlaced(Placing::Round(16));
     let mut right = 0u32;
     for _ in 0..200 {
-        if try_log(rt, alloc, &log, 17, 16, Trial::Round(16))? == 4096 {
+        if try_log(rt, alloc, &log, 17, 16, round)? == 4096 {
             right = right.saturating_add(1);
         }
     }

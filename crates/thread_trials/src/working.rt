@@ -12,7 +12,7 @@ use std::alloc::Global;
 use std::sync::Wait;
 use std::sync::atomic::{AtomicUsize, Ordering};
 use std::thread::Threads;
-use trials_base::TrialFault;
+use trials_base::Attempt;
 use words::{BatchData, Pass};
 use workers::{Gate, Worked, Workers, run_workers};
 
@@ -67,7 +67,7 @@ pub fn print_workers<R: Threads + Wait + Print + Sync>(
     pass: Pass,
     placers: Vec<Placer>,
     workers: usize,
-) -> Result<(), TrialFault>
+) -> Attempt<()>
     requires pass { IsPassOf batch.now pass }
     requires placers { All (IsPlacerIn batch.now) placers.items }
 {

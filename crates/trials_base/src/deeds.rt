@@ -5,7 +5,7 @@ ghost use Rattle.model_base.specs.Privileges.{option_of};
 ghost use Rattle.grants_base.specs.Book.{IsLater, view_of};
 ghost use Rattle.grants_base.specs.View.{holds_in};
 
-use crate::fault::TrialFault;
+use crate::fault::{Attempt, TrialFault};
 use grants::{Book, RecordBook, Records, ViewOf, holds_option};
 use grants_base::lies_below;
 use model_base::{
@@ -71,7 +71,7 @@ pub(crate) fn may_come<B: RecordBook>(book: &B, grant: &Grant) -> bool
 }
 
 /// Adds a table of user 0.
-pub fn enter(book: &mut Book, place: Place) -> Result<(), TrialFault> {
+pub fn enter(book: &mut Book, place: Place) -> Attempt<()> {
     if !book.is_later(place) || book.tables().len() >= 65_536 {
         return Err(TrialFault::Call);
     }
@@ -80,7 +80,7 @@ pub fn enter(book: &mut Book, place: Place) -> Result<(), TrialFault> {
 }
 
 /// Makes a grant, whose grantor holds the option.
-pub fn give(book: &mut Book, grant: Grant) -> Result<(), TrialFault> {
+pub fn give(book: &mut Book, grant: Grant) -> Attempt<()> {
     if !may_come(book, &grant) {
         return Err(TrialFault::Call);
     }
@@ -88,11 +88,7 @@ pub fn give(book: &mut Book, grant: Grant) -> Result<(), TrialFault> {
 }
 
 /// Makes a revocation, and returns the records that end.
-pub fn take(
-    alloc: Global,
-    book: &mut Book,
-    taken: &Revocation,
-) -> Result<Vec<RecordName>, TrialFault> {
+pub fn take(alloc: Global, book: &mut Book, taken: &Revocation) -> Attempt<Vec<RecordName>> {
     if !book.is_later(taken.place) || book.tables().len() <= taken.table.0 as usize {
         return Err(TrialFault::Call);
     }

@@ -10,6 +10,9 @@ use std::alloc::AllocError;
 use std::io;
 use thiserror::Error;
 
+/// What a step of a trial results in.
+pub type Attempt<T> = Result<T, TrialFault>;
+
 /// Why a trial ends without success.
 #[derive(Clone, Copy, Debug, PartialEq, Eq, Error)]
 pub enum TrialFault {

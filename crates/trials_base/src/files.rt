@@ -1,6 +1,6 @@
 //! Files of cases.
 
-use crate::fault::TrialFault;
+use crate::fault::{Attempt, TrialFault};
 use std::alloc::{AllocError, Global};
 use std::fs;
 use std::io::Read;
@@ -10,7 +10,7 @@ use std::rt::Files;
 const MOST_FILE_BYTES: u64 = 1 << 20;
 
 /// The bytes of a file.
-pub fn read_file<R: Files>(rt: &R, alloc: Global, path: &str) -> Result<Vec<u8>, TrialFault> {
+pub fn read_file<R: Files>(rt: &R, alloc: Global, path: &str) -> Attempt<Vec<u8>> {
     let mut text = Vec::new(alloc);
     let file = fs::open(rt, path).map_err(|_| TrialFault::Open)?;
     file.take(MOST_FILE_BYTES + 1).read_to_end(&mut text)?;
@@ -21,18 +21,18 @@ pub fn read_file<R: Files>(rt: &R, alloc: Global, path: &str) -> Result<Vec<u8>,
 }
 
 /// Bytes as text.
-pub fn text_of(bytes: &[u8]) -> Result<&str, TrialFault> {
+pub fn text_of(bytes: &[u8]) -> Attempt<&str> {
     str::from_utf8(bytes).map_err(|_| TrialFault::NotText)
 }
 
 /// The number that a word after the verb of a case is.
-pub fn number_of(words: &[&str], index: usize) -> Result<u64, TrialFault> {
+pub fn number_of(words: &[&str], index: usize) -> Attempt<u64> {
     let word = words.get(index).ok_or(TrialFault::NotText)?;
     word.parse::<u64>().map_err(|_| TrialFault::NotText)
 }
 
 /// The number of 32 bits that a word after the verb of a case is.
-pub fn count_of(words: &[&str], index: usize) -> Result<u32, TrialFault> {
+pub fn count_of(words: &[&str], index: usize) -> Attempt<u32> {
     let word = words.get(index).ok_or(TrialFault::NotText)?;
     word.parse::<u32>().map_err(|_| TrialFault::NotText)
 }

@@ -18,7 +18,7 @@ mod rows;
 pub use batches::{new_batch, references_of};
 pub use before::before_place;
 pub use deeds::{TABLE, enter, give, grant_of, revocation_of, take};
-pub use fault::TrialFault;
+pub use fault::{Attempt, TrialFault};
 pub use files::{count_of, number_of, read_file, text_of, words_of};
 pub use logs::{WholeLog, adding_log, log_of};
 pub use plain_book::PlainBook;

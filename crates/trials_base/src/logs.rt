@@ -3,7 +3,7 @@
 ghost use Rattle.std.specs.Prelude.{◌≡◌, ◌≤◌, length};
 ghost use Rattle.engine.specs.Known.{AreKnown, AreNamed};
 
-use crate::fault::TrialFault;
+use crate::fault::Attempt;
 use log_text::{RawStatement, parse_line};
 use model_base::Place;
 use sequencer::{LogTail, Refused};
@@ -36,7 +36,7 @@ impl WholeLog {
     }
 
     /// Appends the statement of a line. After an error the log is as it was.
-    pub fn push_line(&mut self, alloc: Global, line: &[u8]) -> Result<(), TrialFault> {
+    pub fn push_line(&mut self, alloc: Global, line: &[u8]) -> Attempt<()> {
         let statement = parse_line(alloc, line)?;
         self.push(&statement)?;
         Ok(())
@@ -68,7 +68,7 @@ impl WholeLog {
 }
 
 /// Appends the statements of these lines.
-fn push_lines(alloc: Global, log: &mut WholeLog, lines: &[&str]) -> Result<(), TrialFault> {
+fn push_lines(alloc: Global, log: &mut WholeLog, lines: &[&str]) -> Attempt<()> {
     for line in lines {
         log.push_line(alloc, line.as_bytes())?;
     }
@@ -76,7 +76,7 @@ fn push_lines(alloc: Global, log: &mut WholeLog, lines: &[&str]) -> Result<(), T
 }
 
 /// The log of these lines.
-pub fn log_of(alloc: Global, lines: &[&str]) -> Result<WholeLog, TrialFault> {
+pub fn log_of(alloc: Global, lines: &[&str]) -> Attempt<WholeLog> {
     let mut log = WholeLog::new(alloc);
     push_lines(alloc, &mut log, lines)?;
     Ok(log)
@@ -98,7 +98,7 @@ fn adding_line(alloc: Global, number: usize, rows: usize) -> Result<String, Allo
 }
 
 /// The log of this many such lines.
-pub fn adding_log(alloc: Global, lines: usize, rows: usize) -> Result<WholeLog, TrialFault> {
+pub fn adding_log(alloc: Global, lines: usize, rows: usize) -> Attempt<WholeLog> {
     let mut log = WholeLog::new(alloc);
     for number in 0..lines {
         let line = adding_line(alloc, number, rows)?;

@@ -11,7 +11,7 @@ ghost use Rattle.grants_base.specs.declared.entries.Creation.{Creation};
 ghost use Rattle.model_base.specs.declared.deed.Record.{Record};
 
 use crate::deeds::{is_later, may_come};
-use crate::fault::TrialFault;
+use crate::fault::{Attempt, TrialFault};
 use grants::{Creation, Holder, RecordBook, ViewOf, is_by, is_to, to_end};
 use grants_base::reopened;
 use model_base::{Grant, Kind, Place, Record, RecordName, Revocation, Table, User};
@@ -64,7 +64,7 @@ impl PlainBook {
 
     /// Adds a table last, which its creator owns.
     #[tactic(auto, using(grants::proofs::BookLaws::sound_table))]
-    pub fn add_table(&mut self, owner: User, place: Place) -> Result<(), TrialFault>
+    pub fn add_table(&mut self, owner: User, place: Place) -> Attempt<()>
         ensures ok { OnOk result (self.new ≡ with_table self.old (record { owner = owner; place = place })) }
         ensures err { OnErr result (self.new ≡ self.old) }
     {
@@ -76,7 +76,7 @@ impl PlainBook {
     }
 
     /// Adds a grant last, whose grantor holds the option.
-    pub fn grant(&mut self, grant: Grant) -> Result<(), TrialFault>
+    pub fn grant(&mut self, grant: Grant) -> Attempt<()>
         ensures ok { OnOk result (self.new ≡ with_grant self.old grant) }
         ensures err { OnErr result (self.new ≡ self.old) }
     {
@@ -98,11 +98,7 @@ impl PlainBook {
     }
 
     /// Ends the grants that the revocation takes out of force, at its place, and returns the names of their records in order.
-    pub fn revoke(
-        &mut self,
-        alloc: Global,
-        revocation: &Revocation,
-    ) -> Result<Vec<RecordName>, TrialFault>
+    pub fn revoke(&mut self, alloc: Global, revocation: &Revocation) -> Attempt<Vec<RecordName>>
         ensures ended { IfOk result (λ ends. (owners : List ℕ) (deeds : List Deed) → ShowsBook self.old owners deeds
             → All (λ deed. place_of deed < revocation.now.place) deeds → ends.items ≡ ended_by owners deeds revocation.now) }
         ensures ok { IfOk result (λ ends. self.new ≡ with_ends self.old revocation.now.place ends.items) }
