@@ -84,12 +84,14 @@ fn answer(alloc: Global, engine: &Engine, verb: &str, words: &[&str]) -> Attempt
     }
 }
 
-/// Makes an engine `new`, or takes into its log `readers COUNT` or `rows FIRST COUNT`, and says how many places it has.
+/// Changes an engine, and says how many places it has: `new`; `readers COUNT`; `rows FIRST COUNT`; `forget`.
 fn change(alloc: Global, engine: &mut Engine, verb: &str, words: &[&str]) -> Attempt<String> {
     match verb {
         "new" => *engine = Engine::new(alloc),
         "readers" => push_readers(alloc, engine, number_of(words, 0)?)?,
-        _ => push_rows(alloc, engine, number_of(words, 0)?, number_of(words, 1)?)?,
+        "rows" => push_rows(alloc, engine, number_of(words, 0)?, number_of(words, 1)?)?,
+        "forget" => engine.forget(),
+        _ => return Err(TrialFault::NotText),
     }
     Ok(format!(in alloc; "{} places", engine.log().len())?)
 }
@@ -114,11 +116,7 @@ pub fn outcome<R: Threads + Wait + Sync>(
         "run" => run_text(rt, alloc, engine, words),
         "trim" => Ok(format!(in alloc; "{:?}", engine.trim(number_of(words, 0)?))?),
         "sweep" => Ok(format!(in alloc; "{}", engine.sweep())?),
-        "forget" => {
-            engine.forget();
-            Ok(format!(in alloc; "{} places", engine.log().len())?)
-        }
-        "new" | "readers" | "rows" => change(alloc, engine, verb, words),
+        "new" | "readers" | "rows" | "forget" => change(alloc, engine, verb, words),
         verb => answer(alloc, engine, verb, words),
     }
 }
