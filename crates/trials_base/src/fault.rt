@@ -31,6 +31,9 @@ pub enum TrialFault {
     /// A growth was refused.
     #[error("out of memory")]
     NoMemory(#[from(alloc)] AllocError),
+    /// A growth was refused that isn't a call's own, as by which its arguments are made.
+    #[error("out of memory")]
+    Beside,
     /// A batch or a run failed.
     #[error(transparent)]
     Run(#[from] EngineFault),
@@ -73,7 +76,7 @@ pub enum TrialFault {
 }
 
 impl TrialFault {
-    /// Whether a growth or the start of a thread was refused.
+    /// Whether a growth or the start of a thread was refused to a call.
     pub fn is_refusal(self) -> bool {
         match self {
             TrialFault::NoMemory(_) => true,
@@ -84,7 +87,22 @@ impl TrialFault {
             }
             TrialFault::Question(fault) => fault == AuditFault::NoMemory,
             TrialFault::Place(fault) => fault == ExplainFault::NoMemory,
+            TrialFault::Arguments(fault) => fault == ArgumentFault::NoMemory,
             _ => false,
+        }
+    }
+
+    /// Whether a growth or the start of a thread was refused, to a call or beside it.
+    pub fn is_of_memory(self) -> bool {
+        self == TrialFault::Beside || self.is_refusal()
+    }
+
+    /// This fault of what isn't a call's own.
+    pub fn beside(self) -> TrialFault {
+        if self.is_refusal() {
+            TrialFault::Beside
+        } else {
+            self
         }
     }
 }
@@ -97,4 +115,12 @@ impl From<io::Error> for TrialFault {
             TrialFault::Io
         }
     }
+}
+
+/// What is made beside a call.
+pub fn beside<T, F>(made: Result<T, F>) -> Attempt<T>
+where
+    TrialFault: From<F>,
+{
+    made.map_err(|fault| TrialFault::from(fault).beside())
 }

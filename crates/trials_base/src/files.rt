@@ -31,12 +31,6 @@ pub fn number_of(words: &[&str], index: usize) -> Attempt<u64> {
     word.parse::<u64>().map_err(|_| TrialFault::NotText)
 }
 
-/// The number of 32 bits that a word after the verb of a case is.
-pub fn count_of(words: &[&str], index: usize) -> Attempt<u32> {
-    let word = words.get(index).ok_or(TrialFault::NotText)?;
-    word.parse::<u32>().map_err(|_| TrialFault::NotText)
-}
-
 /// The words of a case, which are parted by single spaces: none of a comment.
 pub fn words_of(alloc: Global, line: &str) -> Result<Vec<&str>, AllocError> {
     if line.is_empty() || line.starts_with('#') {
