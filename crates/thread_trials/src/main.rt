@@ -1,49 +1,51 @@
-//! Trials of places of logs on shared words, by threads.
+//! Trials of places of logs: on shared words, by threads, and by the machine.
 //!
-//! Rows of calls, of files: on the words, and on places that are asked for while they are placed, held or given back. Threads that claim
-//! the same places; 0 to 64 workers on chains, beside placers or once all is placed. What is printed is compared with `stdout`.
+//! `thread_trials [again] FILE..` makes the trials of each file (`section.rt`), and prints what each step results in. After `again` a call
+//! that is refused memory is made again, once it is printed whether all is as before. What is printed is compared with `stdout`.
 #![tactic(auto)]
 
-mod adding;
 mod calls;
+mod closing;
+mod events;
+mod machine;
 mod opening;
+mod places;
+mod section;
 mod steps;
+mod telling;
 mod threads;
 mod trials;
 mod working;
 
-use std::alloc::Global;
+use std::env;
 use std::process::ExitCode;
-use std::rt::Files;
+use std::rt::{Env, Files};
 use std::sync::Wait;
 use std::thread::Threads;
-use trials::{Placed, Placing, Trial, print_rounds, try_chain, try_file};
+use telling::Teller;
+use trials::try_file;
 use trials_base::Attempt;
 
-/// Tells the rows of calls, and then what threads do.
-fn run<R: Files + Threads + Wait + Print + Sync>(rt: &R, alloc: Global) -> Attempt<()> {
-    for path in [
-        "words", "dropped", "opened", "later", "held", "given", "after", "early",
-    ] {
-        try_file(rt, alloc, path)?;
+/// Makes the trials of the files that the command line names.
+fn run<R: Env + Files + Threads + Wait + Print + AllocGlobal + Sync>(rt: &R) -> Attempt<()> {
+    let alloc = rt.alloc();
+    let words = env::args(rt)?.collect::<Vec<String>>(alloc)?;
+    let again = words.iter().skip(1).take(1).any(|word| word.as_str() == "again");
+    let teller = Teller { rt, alloc, again };
+    for path in words.iter().skip(1 + usize::from(again)) {
+        try_file(&teller, path.as_str())?;
     }
-    let bodies = Placed::Row("run 65537\nbodies\n");
-    try_chain(rt, alloc, 65_536, 1, Trial::OncePlaced(bodies))?;
-    try_chain(rt, alloc, 1000, 1, Trial::OncePlaced(Placed::Claiming))?;
-    for workers in [0, 1, 2, 3, 8] {
-        let trial = Trial::WhilePlaced(Placing::Workers(workers));
-        try_chain(rt, alloc, 1000, 7, trial)?;
-    }
-    let trial = Trial::WhilePlaced(Placing::Workers(64));
-    try_chain(rt, alloc, 4096, 64, trial)?;
-    try_chain(rt, alloc, 4096, 64, Trial::OncePlaced(Placed::Workers(64)))?;
-    print_rounds(rt, alloc)
+    Ok(())
 }
 
 fn main(rt: HostRuntime) -> ExitCode {
-    let Err(fault) = run(&rt, rt.alloc()) else {
+    let Err(fault) = run(&rt) else {
         return ExitCode::SUCCESS;
     };
-    let _ = eprintln!(rt; "thread_trials: {fault}");
+    let _ = if fault.is_refusal() {
+        eprintln!(rt; "thread_trials: out of memory")
+    } else {
+        eprintln!(rt; "thread_trials: {fault}")
+    };
     ExitCode::FAILURE
 }

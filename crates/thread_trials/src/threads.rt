@@ -4,12 +4,12 @@ ghost use Rattle.std.specs.Prelude.{◌<◌};
 ghost use Rattle.std.specs.Thread.{IsSync};
 ghost use Rattle.words.specs.Passes.{IsPassOf};
 
-use filling::RangeKey;
+use crate::calls::count_held;
 use filling_base::{Batch, Fills};
 use std::thread;
 use std::thread::Threads;
 use trials_base::Attempt;
-use words::{BatchData, Claimed, HELD, Holding, Pass};
+use words::{BatchData, Claimed, Holding, Pass};
 
 /// How many places the pass wins. It is dropped then.
 fn claim_all<K: Fills>(batch: &Batch<K>, pass: Pass) -> usize
@@ -51,23 +51,17 @@ fn claim_by<K: Fills + Sync, R: Threads + Sync>(
 }
 
 /// Tells how many places sixteen threads win together, and how many are held then: all, so each was won once.
-pub fn print_claiming<R: Threads + Print + Sync>(
+pub fn print_claiming<K: Fills + Sync, R: Threads + Print + Sync>(
     rt: &R,
-    batch: Batch<RangeKey<'_>>,
+    batch: &Batch<K>,
     pass: Pass,
 ) -> Attempt<()>
-    requires { IsPassOf batch pass }
+    requires { IsPassOf batch.now pass }
 {
     let places = batch.key().places();
-    let (kept, given) = batch.split(pass);
-    let won = claim_by(rt, &batch, given, 15);
-    let (_, closed) = batch.close(kept);
-    let mut held = 0u32;
-    for index in 0..places {
-        if closed.claim(index) == HELD {
-            held = held.saturating_add(1);
-        }
-    }
+    let (pass, given) = batch.split(pass);
+    let won = claim_by(rt, batch, given, 15);
+    let held = count_held(batch, pass);
     println!(rt; "sixteen threads claim each of {places} places: {won} are won, {held} are held")?;
     Ok(())
 }

@@ -1,228 +1,190 @@
-//! Trials of the places of a log from one on, as a batch on shared words.
+//! Trials of the places of a log from one on.
 
-ghost use Rattle.std.specs.Prelude.{◌≡◌, ◌<◌, ◌≤◌, All};
+ghost use Rattle.std.specs.Prelude.{◌<◌, ◌≤◌, length};
 ghost use Rattle.words.specs.Passes.{IsPassOf};
-ghost use Rattle.filling.specs.Placers.{IsPlacerIn};
+ghost use Rattle.workers.specs.Placing.{HavePlaced};
+ghost use Rattle.engine.specs.RunState.{IsRunState};
 
-use crate::calls::print_closed;
-use crate::opening::{opened, placed};
+use crate::closing::{store_two, try_closed};
+use crate::machine::try_machine;
+use crate::opening::{Call, opened, placed};
+use crate::places::Places;
+use crate::section::{Kind, Section, parse_log, parse_section};
 use crate::steps::{print_row, print_turns};
+use crate::telling::{NO_MEMORY, Teller};
 use crate::threads::print_claiming;
-use crate::working::{count_round, print_workers};
-use filling::{Placer, RangeKey};
-use filling_base::Batch;
-use model_base::{MOST_PARTITIONS, Place};
-use std::alloc::Global;
+use crate::working::{print_work, tell_rounds, work_of};
+use engine::RunState;
+use filling::Placer;
+use filling_base::{Batch, BatchPlacer};
+use model_base::MOST_PARTITIONS;
 use std::rt::Files;
 use std::sync::Wait;
 use std::thread::Threads;
-use trials_base::{
-    Attempt, TrialFault, WholeLog, adding_log, before_place, log_of, number_of, read_file, text_of,
-    words_of,
-};
-use words::Pass;
+use trials_base::{Attempt, TrialFault, WholeLog, before_place, read_file, text_of};
+use words::{BatchData, Pass};
 
-/// What is tried on a batch.
-#[derive(Clone, Copy)]
-pub enum Trial<'a> {
-    WhilePlaced(Placing<'a>),
-    OncePlaced(Placed<'a>),
-}
-
-/// What is tried on a batch while it is placed.
-#[derive(Clone, Copy)]
-pub enum Placing<'a> {
-    /// A row of calls while partitions place.
-    Turns(&'a str),
-    /// So many workers place and run a chain.
-    Workers(usize),
-    /// So many workers place and run places that add to as many rows. Its value is how many come out right.
-    Round(usize),
-}
-
-/// What is tried on a batch that is placed.
-#[derive(Clone, Copy)]
-pub enum Placed<'a> {
-    /// A row of calls.
-    Row(&'a str),
-    /// A row of calls, after which the words are closed.
-    Closed(&'a str),
-    /// Threads claim all places.
-    Claiming,
-    /// So many workers run a chain.
-    Workers(usize),
-}
-
-/// Makes a trial on a batch that is placed.
-fn try_placed<R: Threads + Wait + Print + Sync>(
-    rt: &R,
-    alloc: Global,
-    batch: Batch<RangeKey<'_>>,
+/// Makes a trial on a batch. Returns 1 if workers did all right in it.
+fn try_batch<K: Places + Sync, P: BatchPlacer<K> + Send, R: Threads + Wait + Print + Sync>(
+    teller: &Teller<'_, R>,
+    batch: &Batch<K>,
     pass: Pass,
-    trial: Placed<'_>,
-) -> Attempt<()>
-    requires { IsPassOf batch pass }
-{
-    match trial {
-        Placed::Row(steps) => {
-            let _pass = print_row(rt, alloc, &batch, pass, steps)?;
-            Ok(())
-        }
-        Placed::Closed(steps) => {
-            let pass = print_row(rt, alloc, &batch, pass, steps)?;
-            print_closed(rt, alloc, batch, pass)
-        }
-        Placed::Claiming => print_claiming(rt, batch, pass),
-        Placed::Workers(workers) => {
-            print_workers(rt, alloc, &batch, pass, Vec::new(alloc), workers)
-        }
-    }
-}
-
-/// Makes a trial on a batch while it is placed. Returns its value.
-fn try_placing<R: Threads + Wait + Print + Sync>(
-    rt: &R,
-    alloc: Global,
-    batch: &Batch<RangeKey<'_>>,
-    pass: Pass,
-    placers: Vec<Placer>,
-    trial: Placing<'_>,
-) -> Attempt<usize>
+    placers: Vec<P>,
+    section: &Section<'_>,
+) -> Attempt<u32>
     requires pass { IsPassOf batch.now pass }
-    requires placers { All (IsPlacerIn batch.now) placers.items }
+    requires placers { HavePlaced P.is_of P.front batch.now 0 placers.items }
 {
-    match trial {
-        Placing::Turns(steps) => print_turns(rt, alloc, batch, pass, placers, steps)?,
-        Placing::Workers(workers) => print_workers(rt, alloc, batch, pass, placers, workers)?,
-        Placing::Round(workers) => return Ok(count_round(rt, alloc, batch, pass, placers, workers)),
+    let (places, crew, workers) = (batch.key().places(), placers.len(), section.workers);
+    match section.kind {
+        Kind::Claims => print_claiming(teller.rt, batch, pass)?,
+        Kind::Open => print_turns(teller, batch, pass, placers, section.steps)?,
+        Kind::Rounds => {
+            let work = work_of(teller, batch, pass, placers, workers, workers);
+            return Ok(u32::from(work.is_whole(places)));
+        }
+        Kind::Work | Kind::Run => {
+            let work = work_of(teller, batch, pass, placers, workers, 1);
+            print_work(teller.rt, workers, crew, places, &work)?;
+        }
+        _ => {
+            let _pass = print_row(teller, batch, pass, section.steps)?;
+        }
     }
     Ok(0)
 }
 
-/// Makes a trial on a batch of a log. Returns its value.
-fn try_opened<R: Threads + Wait + Print + Sync>(
-    rt: &R,
-    alloc: Global,
-    batch: Batch<RangeKey<'_>>,
-    pass: Pass,
-    placers: Vec<Placer>,
-    trial: Trial<'_>,
-) -> Attempt<usize>
-    requires pass { IsPassOf batch pass }
-    requires placers { All (IsPlacerIn batch) placers.items }
+/// Makes a trial on a batch that is placed.
+fn try_placed<R: Threads + Wait + Print + Sync>(
+    teller: &Teller<'_, R>,
+    log: &WholeLog,
+    before: &RunState,
+    partitions: usize,
+    section: &Section<'_>,
+) -> Result<Attempt<()>, Call>
+    requires partitions { 0 < partitions }
+    requires few { partitions ≤ MOST_PARTITIONS }
+    requires within { section.now.first < length log.now.statements }
+    requires before { IsRunState log.now.statements section.now.first before.now.chains before.now.book }
 {
-    match trial {
-        Trial::WhilePlaced(trial) => try_placing(rt, alloc, &batch, pass, placers, trial),
-        Trial::OncePlaced(trial) => {
-            let pass = placed(&batch, pass, placers)?;
-            try_placed(rt, alloc, batch, pass, trial)?;
-            Ok(0)
+    let (batch, pass) = placed(teller.alloc, log, before, section.first, partitions)?;
+    if section.kind == Kind::Close {
+        return try_closed(teller, batch, pass, section.steps);
+    }
+    let none = Vec::<Placer>::new(teller.alloc);
+    Ok(try_batch(teller, &batch, pass, none, section).map(|_| ()))
+}
+
+/// Makes the steps of a trial and finishes the batch, after a pass that stored two words of the first place and was dropped.
+fn try_stored<R: Print>(
+    teller: &Teller<'_, R>,
+    log: &WholeLog,
+    before: &RunState,
+    partitions: usize,
+    section: &Section<'_>,
+) -> Result<Attempt<()>, Call>
+    requires partitions { 0 < partitions }
+    requires few { partitions ≤ MOST_PARTITIONS }
+    requires within { section.now.first < length log.now.statements }
+    requires before { IsRunState log.now.statements section.now.first before.now.chains before.now.book }
+{
+    let (other, done) = placed(teller.alloc, log, before, section.first, partitions)?;
+    let (batch, pass) = placed(teller.alloc, log, before, section.first, partitions)?;
+    let (pass, dropped) = batch.split(pass);
+    if !store_two(&batch, dropped, &other, done) {
+        return Ok(Err(TrialFault::Call));
+    }
+    try_closed(teller, batch, pass, section.steps)
+}
+
+/// Makes a trial on a batch while it is placed, and rounds each on a batch of its own.
+fn try_opened<R: Threads + Wait + Print + Sync>(
+    teller: &Teller<'_, R>,
+    log: &WholeLog,
+    before: &RunState,
+    partitions: usize,
+    section: &Section<'_>,
+) -> Result<Attempt<()>, Call>
+    requires partitions { 0 < partitions }
+    requires few { partitions ≤ MOST_PARTITIONS }
+    requires within { section.now.first < length log.now.statements }
+    requires before { IsRunState log.now.statements section.now.first before.now.chains before.now.book }
+{
+    let rounds = if section.kind == Kind::Rounds { 200 } else { 1 };
+    let mut right = 0u32;
+    for _ in 0..rounds {
+        let (batch, pass, placers) = opened(teller.alloc, log, before, section.first, partitions)?;
+        match try_batch(teller, &batch, pass, placers, section) {
+            Ok(count) => right = right.saturating_add(count),
+            Err(fault) => return Ok(Err(fault)),
+        }
+    }
+    if section.kind != Kind::Rounds {
+        return Ok(Ok(()));
+    }
+    let places = log.len() - section.first;
+    Ok(tell_rounds(teller.rt, section.workers, partitions, places, right))
+}
+
+/// Makes a trial. An error is a call that was refused memory before anything was printed.
+fn try_once<R: Threads + Wait + Print + Sync>(
+    teller: &Teller<'_, R>,
+    log: &WholeLog,
+    before: &RunState,
+    partitions: usize,
+    section: &Section<'_>,
+) -> Result<Attempt<()>, Call>
+    requires partitions { 0 < partitions }
+    requires few { partitions ≤ MOST_PARTITIONS }
+    requires within { section.now.first < length log.now.statements }
+    requires before { IsRunState log.now.statements section.now.first before.now.chains before.now.book }
+{
+    match section.kind {
+        Kind::Events | Kind::List => try_machine(teller, log, before, partitions, section),
+        Kind::Open | Kind::Work | Kind::Rounds => try_opened(teller, log, before, partitions, section),
+        Kind::Stored => try_stored(teller, log, before, partitions, section),
+        Kind::Row | Kind::Close | Kind::Claims | Kind::Run => {
+            try_placed(teller, log, before, partitions, section)
         }
     }
 }
 
-/// Makes a trial on the places of a log from one on, which this many partitions place. Returns its value.
-fn try_log<R: Threads + Wait + Print + Sync>(
-    rt: &R,
-    alloc: Global,
+/// Makes a trial, again if one of the calls that make and end its batch was refused memory.
+fn try_section<R: Threads + Wait + Print + Sync>(
+    teller: &Teller<'_, R>,
     log: &WholeLog,
-    first: Place,
-    partitions: usize,
-    trial: Trial<'_>,
-) -> Attempt<usize>
-    requires partitions { 0 < partitions }
-    requires few { partitions ≤ MOST_PARTITIONS }
-{
-    if first >= log.len() {
+    section: &Section<'_>,
+) -> Attempt<()> {
+    if section.first >= log.len() {
         return Err(TrialFault::Call);
     }
-    let before = before_place(alloc, log, first)?;
-    let (batch, pass, placers) = opened(alloc, log, &before, first, partitions)?;
-    try_opened(rt, alloc, batch, pass, placers, trial)
-}
-
-/// Makes a trial on the last places of a log of lines that each add 1 to a row.
-pub fn try_chain<R: Threads + Wait + Print + Sync>(
-    rt: &R,
-    alloc: Global,
-    places: usize,
-    partitions: usize,
-    trial: Trial<'_>,
-) -> Attempt<()>
-    requires partitions { 0 < partitions }
-    requires few { partitions ≤ MOST_PARTITIONS }
-{
-    let log = adding_log(alloc, places.saturating_add(2), 1)?;
-    let _value = try_log(rt, alloc, &log, 2, partitions, trial)?;
-    Ok(())
-}
-
-/// The trial of a file.
-#[derive(Clone, Copy)]
-struct TrialFile<'a> {
-    lines: &'a str,
-    /// The first place of the batch.
-    first: Place,
-    partitions: usize,
-    trial: Trial<'a>,
-}
-
-/// Reads the trial of a file: the lines of a log, a line `batch FIRST PARTITIONS`, with `open` after it if it is to be placed by the steps,
-/// or `close` if its words are to be closed after them, and the steps of a row.
-fn parse_trial(alloc: Global, text: &str) -> Attempt<TrialFile<'_>> {
-    let (lines, rest) = text.split_once("batch ").ok_or(TrialFault::NotText)?;
-    let (range, steps) = rest.split_once('\n').ok_or(TrialFault::NotText)?;
-    let words = words_of(alloc, range)?;
-    Ok(TrialFile {
-        lines: lines.trim_end_matches('\n'),
-        first: number_of(words.as_slice(), 0)?,
-        partitions: number_of(words.as_slice(), 1)? as usize,
-        trial: match words.get(2).copied().unwrap_or("") {
-            "open" => Trial::WhilePlaced(Placing::Turns(steps)),
-            "close" => Trial::OncePlaced(Placed::Closed(steps)),
-            _ => Trial::OncePlaced(Placed::Row(steps)),
-        },
-    })
-}
-
-/// The log of these lines.
-fn log_of_lines(alloc: Global, lines: &str) -> Attempt<WholeLog> {
-    let lines = lines.split('\n').collect::<Vec<&str>>(alloc)?;
-    log_of(alloc, lines.as_slice())
-}
-
-/// Makes the trial that a text describes.
-fn try_text<R: Threads + Wait + Print + Sync>(rt: &R, alloc: Global, text: &str) -> Attempt<()> {
-    let file = parse_trial(alloc, text)?;
-    let partitions = file.partitions.clamp(1, MOST_PARTITIONS);
-    let log = log_of_lines(alloc, file.lines)?;
-    let _value = try_log(rt, alloc, &log, file.first, partitions, file.trial)?;
-    Ok(())
-}
-
-/// Makes the trial of a file.
-pub fn try_file<R: Files + Threads + Wait + Print + Sync>(
-    rt: &R,
-    alloc: Global,
-    path: &str,
-) -> Attempt<()> {
-    println!(rt; "{path}")?;
-    let text = read_file(rt, alloc, path)?;
-    try_text(rt, alloc, text_of(text.as_slice())?)
-}
-
-/// Tells in how many rounds all came out right on places that add to rows, each time as a new batch, by as many workers and placers.
-pub fn print_rounds<R: Threads + Wait + Print + Sync>(rt: &R, alloc: Global) -> Attempt<()> {
-    let log = adding_log(alloc, 1 + 16 + 4096, 16)?;
-    let round = Trial::WhilePlaced(Placing::Round(16));
-    let mut right = 0u32;
-    for _ in 0..200 {
-        if try_log(rt, alloc, &log, 17, 16, round)? == 4096 {
-            right = right.saturating_add(1);
+    let partitions = section.partitions.clamp(1, MOST_PARTITIONS);
+    let before = before_place(teller.alloc, log, section.first)?;
+    match try_once(teller, log, &before, partitions, section) {
+        Ok(done) => done,
+        Err(call) => {
+            teller.refused(call.name(), "as before", true)?;
+            try_once(teller, log, &before, partitions, section).unwrap_or(Err(NO_MEMORY))
         }
     }
-    println!(rt;
-        "16 workers and 16 placers on 4096 places over 16 rows, 200 rounds: in {right} each place has its output and each body was run once"
-    )?;
+}
+
+/// Makes the trials of a text.
+fn try_text<R: Threads + Wait + Print + Sync>(teller: &Teller<'_, R>, text: &str) -> Attempt<()> {
+    let (lines, trials) = text.split_once("\nbatch ").ok_or(TrialFault::NotText)?;
+    let log = parse_log(teller.alloc, lines)?;
+    for trial in trials.split("\nbatch ") {
+        try_section(teller, &log, &parse_section(teller.alloc, trial)?)?;
+    }
     Ok(())
+}
+
+/// Makes the trials of a file.
+pub fn try_file<R: Files + Threads + Wait + Print + Sync>(
+    teller: &Teller<'_, R>,
+    path: &str,
+) -> Attempt<()> {
+    println!(teller.rt; "{path}")?;
+    let text = read_file(teller.rt, teller.alloc, path)?;
+    try_text(teller, text_of(text.as_slice())?)
 }

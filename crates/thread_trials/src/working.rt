@@ -1,14 +1,13 @@
 //! Workers on places that add 1 to a row, or to some rows one after another.
 
-ghost use Rattle.std.specs.Prelude.{◌≡◌, All};
 ghost use Rattle.words.specs.Passes.{IsPassOf};
-ghost use Rattle.filling.specs.Placers.{IsPlacerIn};
+ghost use Rattle.workers.specs.Placing.{HavePlaced};
 
-use crate::adding::count_right;
-use filling::{Placer, RangeKey};
-use filling_base::Batch;
-use model_base::Place;
-use std::alloc::Global;
+use crate::places::Places;
+use crate::telling::Teller;
+use filling_base::{Batch, BatchPlacer};
+use model_base::{DeedDone, Outcome, Place};
+use std::alloc::AllocError;
 use std::sync::Wait;
 use std::sync::atomic::{AtomicUsize, Ordering};
 use std::thread::Threads;
@@ -30,78 +29,121 @@ impl Gate for Counting {
     }
 }
 
-/// Places and runs a batch by this many workers. Returns the outcome, and whether each was given all places.
-#[tactic(auto, using(crate::proofs::Opened::have_placed))]
-fn run_by<R: Threads + Wait + Sync>(
-    rt: &R,
-    alloc: Global,
-    batch: &Batch<RangeKey<'_>>,
-    pass: Pass,
-    placers: Vec<Placer>,
-    workers: usize,
-) -> (Pass, Worked, bool)
-    requires pass { IsPassOf batch.now pass }
-    requires placers { All (IsPlacerIn batch.now) placers.items }
+/// What workers leave of places that add.
+#[derive(Clone, Copy)]
+pub struct Work {
+    worked: Worked,
+    /// Whether each worker was given each place.
+    told: bool,
+    /// How many places have the output of the run in order.
+    right: usize,
+    bodies: u64,
+    is_placed: bool,
+}
+
+/// Whether a place is done with the output of this turn alone.
+fn is_output(found: &Result<Option<Outcome>, AllocError>, turn: usize) -> bool {
+    let wanted = i64::try_from(turn).unwrap_or(i64::MAX).saturating_add(1);
+    match found {
+        Ok(Some(Outcome::Done {
+            outputs,
+            deed: DeedDone::None,
+        })) => outputs.as_slice() == [wanted].as_slice(),
+        _ => false,
+    }
+}
+
+/// How many of the places that add to this many rows are done and have the outcome of the run in order.
+fn count_right<K: Places>(batch: &Batch<K>, pass: Pass, rows: usize) -> (Pass, usize)
+    requires { IsPassOf batch.now pass }
     ensures { IsPassOf batch.now result.0 }
+{
+    let mut right = 0usize;
+    let mut last = pass;
+    for index in 0..batch.key().places() {
+        let (next, found) = K::outcome(batch, last, index);
+        last = next;
+        right = right.saturating_add(usize::from(is_output(&found, index / rows.max(1))));
+    }
+    (last, right)
+}
+
+/// Places and runs places that add to this many rows by this many workers, or only runs them where there are no placers.
+pub fn work_of<K: Places + Sync, P: BatchPlacer<K> + Send, R: Threads + Wait + Sync>(
+    teller: &Teller<'_, R>,
+    batch: &Batch<K>,
+    pass: Pass,
+    placers: Vec<P>,
+    workers: usize,
+    rows: usize,
+) -> Work
+    requires pass { IsPassOf batch.now pass }
+    requires placers { HavePlaced P.is_of P.front batch.now 0 placers.items }
 {
     let gate = Counting {
         done: AtomicUsize::new(0),
     };
     let wanted = batch.key().places().saturating_mul(workers.max(1));
     let team = Workers {
-        rt,
-        alloc,
+        rt: teller.rt,
+        alloc: teller.alloc,
         gate: &gate,
         count: workers,
     };
     let (pass, worked) = run_workers(&team, batch, 0, pass, placers);
-    (pass, worked, gate.done.load(Ordering::SeqCst) == wanted)
+    let told = gate.done.load(Ordering::SeqCst) == wanted;
+    let bodies = pass.bodies();
+    let (pass, right) = count_right(batch, pass, rows);
+    let (_pass, is_placed) = batch.all_placed(pass);
+    Work {
+        worked,
+        told,
+        right,
+        bodies,
+        is_placed,
+    }
 }
 
-/// Prints the outcome of a chain that this many workers place and run, or only run where there are no placers: the outcome, whether each
-/// was given each place, and what the places are then.
-pub fn print_workers<R: Threads + Wait + Print + Sync>(
-    rt: &R,
-    alloc: Global,
-    batch: &Batch<RangeKey<'_>>,
-    pass: Pass,
-    placers: Vec<Placer>,
+impl Work {
+    /// Whether all of this many places came out right, each run once.
+    pub fn is_whole(&self, places: usize) -> bool {
+        self.worked == Worked::Done
+            && self.told
+            && self.right == places
+            && self.bodies == places as u64
+            && self.is_placed
+    }
+}
+
+/// Prints what workers left of a chain of this many places.
+pub fn print_work(
+    rt: &impl Print,
     workers: usize,
-) -> Attempt<()>
-    requires pass { IsPassOf batch.now pass }
-    requires placers { All (IsPlacerIn batch.now) placers.items }
-{
-    let (crew, places) = (placers.len(), batch.key().places());
-    let (pass, worked, told) = run_by(rt, alloc, batch, pass, placers, workers);
-    let bodies = pass.bodies();
-    let (pass, right) = count_right(batch, pass, places, 1);
-    let (_pass, is_placed) = batch.all_placed(pass);
+    placers: usize,
+    places: usize,
+    work: &Work,
+) -> Attempt<()> {
+    let (worked, told) = (work.worked, work.told);
     println!(rt;
-        "{workers} workers and {crew} placers on a chain of {places} places: {worked:?}, each was told all: {told}"
+        "{workers} workers and {placers} placers on a chain of {places} places: {worked:?}, each was told all: {told}"
     )?;
+    let (right, bodies, is_placed) = (work.right, work.bodies, work.is_placed);
     println!(rt;
         "  {right} have their output, {bodies} bodies were run, all is placed: {is_placed}"
     )?;
     Ok(())
 }
 
-/// Places and runs places that add to as many rows as there are workers. Returns how many come out right: none if a body wasn't run once.
-pub fn count_round<R: Threads + Wait + Sync>(
-    rt: &R,
-    alloc: Global,
-    batch: &Batch<RangeKey<'_>>,
-    pass: Pass,
-    placers: Vec<Placer>,
+/// Prints in how many rounds all came out right.
+pub fn tell_rounds(
+    rt: &impl Print,
     workers: usize,
-) -> usize
-    requires pass { IsPassOf batch.now pass }
-    requires placers { All (IsPlacerIn batch.now) placers.items }
-{
-    let places = batch.key().places();
-    let (pass, worked, told) = run_by(rt, alloc, batch, pass, placers, workers);
-    let bodies = pass.bodies();
-    let (pass, right) = count_right(batch, pass, places, workers);
-    let (_pass, is_placed) = batch.all_placed(pass);
-    let is_whole = worked == Worked::Done && told && bodies == places as u64 && is_placed;
-    if is_whole { right } else { 0 }
+    placers: usize,
+    places: u64,
+    right: u32,
+) -> Attempt<()> {
+    println!(rt;
+        "{workers} workers and {placers} placers on {places} places over {workers} rows, 200 rounds: in {right} each place has its output and each body was run once"
+    )?;
+    Ok(())
 }

@@ -1,6 +1,5 @@
 //! Why a trial ends without success.
 
-use audit_text::AuditFault;
 use bohm_base::ArgumentFault;
 use engine::EngineFault;
 use explain::ExplainFault;
@@ -37,9 +36,6 @@ pub enum TrialFault {
     /// A batch or a run failed.
     #[error(transparent)]
     Run(#[from] EngineFault),
-    /// A question has no answer.
-    #[error(transparent)]
-    Question(#[from] AuditFault),
     /// A place isn't explained.
     #[error(transparent)]
     Place(#[from] ExplainFault),
@@ -85,7 +81,6 @@ impl TrialFault {
             TrialFault::Run(fault) => {
                 fault == EngineFault::NoMemory || fault == EngineFault::Spawn
             }
-            TrialFault::Question(fault) => fault == AuditFault::NoMemory,
             TrialFault::Place(fault) => fault == ExplainFault::NoMemory,
             TrialFault::Arguments(fault) => fault == ArgumentFault::NoMemory,
             _ => false,
