@@ -1,6 +1,7 @@
 //! Calls of an engine.
 
 use crate::driver::{Call, World};
+use crate::failing::failing;
 use crate::gates::gated;
 use crate::handed_in::explanation_of;
 use audit_text::put_explanation;
@@ -162,13 +163,14 @@ fn finished_text(alloc: Global, engine: &Engine) -> Result<String, AllocError> {
 
 impl<R: Files + Threads + Wait + Sync> World<R> for Engine {
     /// `push LINE`; `run START END WORKERS PARTITIONS`; `gated START END WORKERS PARTITIONS HELD PLACE`; `log FILE WORKERS PARTITIONS
-    /// BATCH KEEP`; `serial`; of a line alone `parse LINE` and `print LINE`; or a change, or a question.
+    /// BATCH KEEP`; `fail READS WRITES FLUSHES`; `serial`; of a line alone `parse LINE` and `print LINE`; or a change, or a question.
     fn make(&mut self, rt: &R, alloc: Global, call: &Call<'_>) -> Attempt<String> {
         match call.verb {
             "push" => push(alloc, self, call.rest),
             "run" => run_by(rt, alloc, self, call, &NoGate),
             "gated" => gated(rt, alloc, self, call),
             "log" => run_file(rt, alloc, self, call),
+            "fail" => failing(rt, alloc, call),
             "serial" => slow_outcomes(alloc, self),
             "parse" => user_of(alloc, call.rest),
             "print" => printed(alloc, call.rest),

@@ -11,6 +11,7 @@ mod counting;
 mod driver;
 mod engines;
 mod extending;
+mod failing;
 mod foretold;
 mod gates;
 mod handed_in;
