@@ -66,7 +66,11 @@ fn verb_of(word: &str) -> Attempt<Verb> {
 /// Reads a step: a verb, and the number of a place or 0.
 pub fn parse_step(words: &[&str]) -> Attempt<(Verb, u64)> {
     let verb = verb_of(words.get(0).copied().unwrap_or(""))?;
-    let number = if words.len() > 1 { number_of(words, 1)? } else { 0 };
+    let number = if words.len() > 1 {
+        number_of(words, 1)?
+    } else {
+        0
+    };
     Ok((verb, number))
 }
 
@@ -81,9 +85,7 @@ pub fn print_said(rt: &impl Print, number: u64, said: &Said) -> Attempt<()> {
             "  another pass looks at {number}: Done, with {word}, and the end {end:?}"
         )?,
         Said::Claimed(found) => println!(rt; "  another pass claims {number}: {found:?}")?,
-        Said::GivenBack => println!(rt;
-            "  another pass claims {number}: Won, and gives it back"
-        )?,
+        Said::GivenBack => println!(rt; "  another pass claims {number}: Won, and gives it back")?,
         Said::Placed(all) => println!(rt; "all is placed: {all}")?,
         Said::Bodies(bodies) => println!(rt; "{bodies} bodies were run")?,
     }

@@ -16,7 +16,10 @@ use std::alloc::{AllocError, Global};
 use trials_base::{Attempt, WholeLog, new_batch};
 
 /// All that is stored.
-fn picture<S: Statements + Drop>(alloc: Global, machine: &Machine<S>) -> Result<String, AllocError> {
+fn picture<S: Statements + Drop>(
+    alloc: Global,
+    machine: &Machine<S>,
+) -> Result<String, AllocError> {
     let state = machine.state();
     let partitions = machine.statements().partitions();
     let mut text = String::new(alloc);
@@ -134,7 +137,9 @@ fn print_found(rt: &impl Print, alloc: Global, machine: &Machine<OfLog<'_>>) -> 
             Some(outcome) => {
                 let references = state.references(index);
                 let own = done_words(machine, index).unwrap_or(&[]);
-                println!(rt; "index {index} refers to {references:?} and has {own:?}: {outcome:?}")?;
+                println!(rt;
+                    "index {index} refers to {references:?} and has {own:?}: {outcome:?}"
+                )?;
             }
         }
     }

@@ -30,7 +30,11 @@ use trials_base::Attempt;
 fn run<R: Env + Files + Threads + Wait + Print + AllocGlobal + Sync>(rt: &R) -> Attempt<()> {
     let alloc = rt.alloc();
     let words = env::args(rt)?.collect::<Vec<String>>(alloc)?;
-    let again = words.iter().skip(1).take(1).any(|word| word.as_str() == "again");
+    let again = words
+        .iter()
+        .skip(1)
+        .take(1)
+        .any(|word| word.as_str() == "again");
     let teller = Teller { rt, alloc, again };
     for path in words.iter().skip(1 + usize::from(again)) {
         try_file(&teller, path.as_str())?;
@@ -42,7 +46,7 @@ fn main(rt: HostRuntime) -> ExitCode {
     let Err(fault) = run(&rt) else {
         return ExitCode::SUCCESS;
     };
-    let _ = if fault.is_refusal() {
+    let _ = if fault.is_of_memory() {
         eprintln!(rt; "thread_trials: out of memory")
     } else {
         eprintln!(rt; "thread_trials: {fault}")

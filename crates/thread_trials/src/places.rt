@@ -45,6 +45,10 @@ impl Places for RangeKey<'_> {
     }
 
     fn run(batch: &Batch<Self>, pass: Pass, index: usize) -> (Pass, Ran) {
-        run_place(batch, pass, batch.key().batch().first_place() + index as u64)
+        run_place(
+            batch,
+            pass,
+            batch.key().batch().first_place() + index as u64,
+        )
     }
 }

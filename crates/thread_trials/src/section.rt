@@ -70,7 +70,11 @@ pub fn parse_section(alloc: Global, text: &str) -> Attempt<Section<'_>> {
         first: number_of(words, 0)?,
         partitions: number_of(words, 1)? as usize,
         kind: kind_of(words.get(2).copied().unwrap_or("row"))?,
-        workers: if words.len() > 3 { number_of(words, 3)? as usize } else { 0 },
+        workers: if words.len() > 3 {
+            number_of(words, 3)? as usize
+        } else {
+            0
+        },
         steps,
     })
 }
@@ -79,7 +83,10 @@ pub fn parse_section(alloc: Global, text: &str) -> Attempt<Section<'_>> {
 pub fn parse_log(alloc: Global, text: &str) -> Attempt<WholeLog> {
     if let Some(counts) = text.strip_prefix("adding ") {
         let words = words_of(alloc, counts)?;
-        let (lines, rows) = (number_of(words.as_slice(), 0)?, number_of(words.as_slice(), 1)?);
+        let (lines, rows) = (
+            number_of(words.as_slice(), 0)?,
+            number_of(words.as_slice(), 1)?,
+        );
         return adding_log(alloc, lines as usize, rows as usize);
     }
     let lines = text.split('\n').collect::<Vec<&str>>(alloc)?;

@@ -141,7 +141,9 @@ fn try_once<R: Threads + Wait + Print + Sync>(
 {
     match section.kind {
         Kind::Events | Kind::List => try_machine(teller, log, before, partitions, section),
-        Kind::Open | Kind::Work | Kind::Rounds => try_opened(teller, log, before, partitions, section),
+        Kind::Open | Kind::Work | Kind::Rounds => try_opened(
+            teller, log, before, partitions, section,
+        ),
         Kind::Stored => try_stored(teller, log, before, partitions, section),
         Kind::Row | Kind::Close | Kind::Claims | Kind::Run => {
             try_placed(teller, log, before, partitions, section)

@@ -45,10 +45,14 @@ pub struct Work {
 fn is_output(found: &Result<Option<Outcome>, AllocError>, turn: usize) -> bool {
     let wanted = i64::try_from(turn).unwrap_or(i64::MAX).saturating_add(1);
     match found {
-        Ok(Some(Outcome::Done {
-            outputs,
-            deed: DeedDone::None,
-        })) => outputs.as_slice() == [wanted].as_slice(),
+        Ok(
+            Some(
+                Outcome::Done {
+                    outputs,
+                    deed: DeedDone::None,
+                },
+            ),
+        ) => outputs.as_slice() == [wanted].as_slice(),
         _ => false,
     }
 }

@@ -105,7 +105,12 @@ impl<R: Print> Driver<'_, R> {
     }
 
     /// Makes the calls of a text, which are parted by `; `, with a number in place of each `#`. What the last results in is returned.
-    fn make_numbered<W: World<R>>(&self, world: &mut W, text: &str, number: u64) -> Attempt<String> {
+    fn make_numbered<W: World<R>>(
+        &self,
+        world: &mut W,
+        text: &str,
+        number: u64,
+    ) -> Attempt<String> {
         let text = numbered(self.alloc, text, number)?;
         let mut said = String::new(self.alloc);
         for line in text.as_str().split("; ") {

@@ -20,7 +20,11 @@ fn calls_of(call: &Call<'_>, index: usize) -> Option<u64> {
 
 /// Runs a log whose reads give seven bytes and whose writes take five, and says what was written: `READS WRITES FLUSHES`, after which
 /// each fails.
-pub fn failing<R: Threads + Wait + Sync>(rt: &R, alloc: Global, call: &Call<'_>) -> Attempt<String> {
+pub fn failing<R: Threads + Wait + Sync>(
+    rt: &R,
+    alloc: Global,
+    call: &Call<'_>,
+) -> Attempt<String> {
     let mut log = Counted::new(MemoryReader {
         left: LOG,
         most: 7,

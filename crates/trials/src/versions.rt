@@ -108,7 +108,11 @@ fn change(alloc: Global, chains: &mut Chains, call: &Call<'_>) -> Attempt<()> {
 }
 
 /// Moves the mark of a store, or sweeps it: `trim MARK`; `sweep`.
-fn drop_versions(alloc: Global, chains: &mut Chains, call: &Call<'_>) -> Result<String, AllocError> {
+fn drop_versions(
+    alloc: Global,
+    chains: &mut Chains,
+    call: &Call<'_>,
+) -> Result<String, AllocError> {
     if call.verb == "sweep" {
         return format!(in alloc; "{}", chains.sweep());
     }
