@@ -25,10 +25,13 @@ fn users_of(call: &Call<'_>) -> (u32, u32) {
 
 /// A need on the table, by the words from the third on: a kind, and `OPTION` if it is to be granted further.
 fn need_of(call: &Call<'_>) -> Need {
-    let is_read = call.words.get(2).is_some_and(|word| *word == "READ");
+    let kind = match call.word(2) {
+        "READ" => Kind::Read,
+        _ => Kind::Insert,
+    };
     Need {
         table: TABLE,
-        kind: if is_read { Kind::Read } else { Kind::Insert },
+        kind,
         option: call.words.len() > 3,
     }
 }
@@ -49,7 +52,7 @@ fn need_text<V: Records>(alloc: Global, view: &mut V, user: User, need: &Need) -
     } else {
         last_loss(view, user, need)
     };
-    Ok(format!(in alloc; "held: {held}, denial: {denial:?}, lost: {lost:?}")?)
+    beside(format!(in alloc; "held: {held}, denial: {denial:?}, lost: {lost:?}"))
 }
 
 /// What both books at a place say of a user's need, and how many records were looked at.
@@ -64,7 +67,7 @@ fn counted_need(
     let text = need_text(alloc, &mut view, user, need)?;
     expect(text == need_text(alloc, &mut both.plain.at(place), user, need)?)?;
     let (grants, ends) = (view.grants, view.ends);
-    Ok(format!(in alloc; "{text}; looked at {grants} grants and {ends} ends")?)
+    beside(format!(in alloc; "{text}; looked at {grants} grants and {ends} ends"))
 }
 
 /// The records that a revocation would end, as a view says.
@@ -97,9 +100,12 @@ fn first_text<V: Records>(alloc: Global, view: &mut V) -> Attempt<String> {
         return Err(TrialFault::Call);
     }
     let (owner, grant, end) = (view.owner(TABLE), view.grant(0), view.end(0));
-    let grantee = grant.map(|grant| grant.grantee);
+    let Some(grant) = grant else {
+        return Err(TrialFault::Call);
+    };
+    let grantee = grant.grantee;
     beside(format!(in alloc;
-        "place {place}, {slots} slots, table 1: {other}; {owner:?}, to {grantee:?}, ended {end:?}"
+        "place {place}, {slots} slots, table 1: {other}; {owner:?}, to Some({grantee:?}), ended {end:?}"
     ))
 }
 
@@ -138,7 +144,7 @@ fn lines_text(alloc: Global, book: &Book, place: Place, user: User, need: Need) 
     }
     let lines = explain_needs(alloc, book, place, user, &[need])?;
     let sound = are_sound(book, place, user, &[need], &lines);
-    Ok(format!(in alloc; "{lines:?}, sound: {sound}")?)
+    beside(format!(in alloc; "{lines:?}, sound: {sound}"))
 }
 
 /// Makes deeds: `new`; `table PLACE`, of user 0; `grant` and `option PLACE USER USER`; `extend PLACE`; `cut PLACE`.

@@ -1,5 +1,6 @@
 //! A book of grants, and the plain one in which the same is done.
 
+use crate::driver::is_refused;
 use crate::extending::extend;
 use grants::{Book, RecordBook};
 use model_base::{Grant, Place, RecordName, Revocation, Table, User};
@@ -18,11 +19,6 @@ pub struct Both {
 /// What the books say has to be the same.
 pub fn expect(same: bool) -> Attempt<()> {
     same.then_some(()).ok_or(TrialFault::Differs)
-}
-
-/// Whether memory was refused.
-fn is_refused(made: &Attempt<()>) -> bool {
-    made.as_ref().is_err_and(|fault| fault.is_refusal())
 }
 
 /// Makes the deeds of an extension.
@@ -44,10 +40,8 @@ fn enter_and_take(alloc: Global, plain: &mut PlainBook, place: Place) -> Attempt
 
 /// What both books made of a deed, of which the plain one isn't what is tried.
 fn agreed(made: Attempt<()>, other: Attempt<()>) -> Attempt<()> {
-    if let Err(fault) = other {
-        if fault.is_refusal() {
-            return Err(TrialFault::Beside);
-        }
+    if is_refused(&other) {
+        return Err(TrialFault::Beside);
     }
     expect(made.is_ok() == other.is_ok())?;
     made

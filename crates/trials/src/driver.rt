@@ -12,9 +12,17 @@ pub struct Call<'a> {
 }
 
 impl Call<'_> {
+    /// A word, or an empty one where there are fewer.
+    pub fn word(&self, index: usize) -> &str {
+        match self.words.get(index) {
+            Some(word) => word,
+            None => "",
+        }
+    }
+
     /// The number that a word is: 0 where there is no such word, or where it is none.
     pub fn number(&self, index: usize) -> u64 {
-        self.words.get(index).map_or(0, |word| number_in(word))
+        number_in(self.word(index))
     }
 
     /// The number of 32 bits that a word is, or the greatest.
@@ -26,6 +34,14 @@ impl Call<'_> {
 /// The number that a word is: 0 where it is none.
 pub fn number_in(word: &str) -> u64 {
     word.parse::<u64>().unwrap_or(0)
+}
+
+/// Whether memory was refused to a call.
+pub fn is_refused<T>(made: &Attempt<T>) -> bool {
+    match made {
+        Ok(_) => false,
+        Err(fault) => fault.is_refusal(),
+    }
 }
 
 /// What calls are made on.
@@ -86,7 +102,7 @@ impl<R: Print> Driver<'_, R> {
         }
         let before = world.picture(self.alloc)?;
         let made = world.make(self.rt, self.alloc, call);
-        if !made.as_ref().is_err_and(|fault| fault.is_refusal()) {
+        if !is_refused(&made) {
             return made;
         }
         let is_same = before == world.picture(self.alloc)?;

@@ -21,7 +21,7 @@ use workers::{Gate, NoGate};
 
 /// The statement of a line that a call is given.
 fn statement_of<'a>(alloc: Global, line: &'a str) -> Attempt<RawStatement<'a>> {
-    parse_line(alloc, line.as_bytes()).map_err(|fault| TrialFault::Line(fault).beside())
+    beside(parse_line(alloc, line.as_bytes()))
 }
 
 /// Whose statement a line is.
@@ -97,8 +97,7 @@ fn run_file<R: Files + Threads + Wait + Sync>(
     engine: &mut Engine,
     call: &Call<'_>,
 ) -> Attempt<String> {
-    let path = call.words.first().unwrap_or(&"");
-    let log = read_file(rt, alloc, path)?;
+    let log = read_file(rt, alloc, call.word(0))?;
     *engine = run_log(rt, alloc, log.as_slice(), &settings_of(call))?;
     beside(format!(in alloc; "mark {}, {} finished", engine.mark(), engine.finished()))
 }

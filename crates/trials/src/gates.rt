@@ -125,7 +125,7 @@ pub fn gated<R: Threads + Wait + Sync>(
     engine: &mut Engine,
     call: &Call<'_>,
 ) -> Attempt<String> {
-    let held = held_of(call.words.get(4).unwrap_or(&""))?;
+    let held = held_of(call.word(4))?;
     let gate = Watch::new(held, call.number(5));
     let ended = run_by(rt, alloc, engine, call, &gate)?;
     watched(alloc, ended.as_str(), &gate)

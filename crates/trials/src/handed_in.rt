@@ -48,7 +48,7 @@ pub fn explanation_of(alloc: Global, call: &Call<'_>) -> Attempt<Explanation> {
     let need = Need {
         table: Table(0),
         kind: Kind::Read,
-        option: call.words.get(1).is_some_and(|word| *word == "OPTION"),
+        option: call.word(1) == "OPTION",
     };
     let mut lines = Vec::new(alloc);
     for word in call.words.iter().skip(2) {
