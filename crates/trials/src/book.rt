@@ -2,7 +2,7 @@
 
 use crate::both::{Both, agreed_names, expect};
 use crate::counting::Counting;
-use crate::driver::{Call, World};
+use crate::driver::Call;
 use explain::{are_sound, explain_needs};
 use grants::{Book, BookView, Holder, Records, denial, holds, holds_option, last_loss, to_end};
 use model_base::{Grantee, Kind, Need, Place, RecordName, Revocation, Table, User};
@@ -187,21 +187,20 @@ fn answer(alloc: Global, both: &Both, call: &Call<'_>) -> Attempt<String> {
     }
 }
 
-impl<R> World<R> for Both {
-    /// A change; `revoke PLACE USER USER`, and of one that isn't made `ends`; `need PLACE USER KIND`, with `OPTION` or without; `lines
-    /// PLACE USER KIND`, of the book alone; `view PLACE USER USER`.
-    fn make(&mut self, _rt: &R, alloc: Global, call: &Call<'_>) -> Attempt<String> {
-        match call.verb {
-            "revoke" => revoke(alloc, self, call.number(0), users_of(call)),
-            "ends" | "view" | "need" | "lines" => answer(alloc, self, call),
-            _ => {
-                change(alloc, self, call)?;
-                counts(alloc, self)
-            }
+/// A change; `revoke PLACE USER USER`, and of one that isn't made `ends`; `need PLACE USER KIND`, with `OPTION` or without; `lines
+/// PLACE USER KIND`, of the book alone; `view PLACE USER USER`.
+pub fn make(alloc: Global, both: &mut Both, call: &Call<'_>) -> Attempt<String> {
+    match call.verb {
+        "revoke" => revoke(alloc, both, call.number(0), users_of(call)),
+        "ends" | "view" | "need" | "lines" => answer(alloc, both, call),
+        _ => {
+            change(alloc, both, call)?;
+            counts(alloc, both)
         }
     }
+}
 
-    fn picture(&self, alloc: Global) -> Result<String, AllocError> {
-        format!(in alloc; "{:?} {:?}", self.book.tables(), self.book.records())
-    }
+/// All that calls have made of a both, as text.
+pub fn picture(alloc: Global, both: &Both) -> Result<String, AllocError> {
+    format!(in alloc; "{:?} {:?}", both.book.tables(), both.book.records())
 }

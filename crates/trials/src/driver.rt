@@ -1,6 +1,10 @@
 //! Calls, which are lines of a file, made on a world and printed with what they result in.
 
+use crate::world::World;
 use std::alloc::{AllocError, Global};
+use std::rt::Files;
+use std::sync::Wait;
+use std::thread::Threads;
 use trials_base::{Attempt, TrialFault, words_of};
 
 /// A call: the first word of a line, what is after it, and the words of that.
@@ -44,15 +48,6 @@ pub fn is_refused<T>(made: &Attempt<T>) -> bool {
     }
 }
 
-/// What calls are made on.
-pub trait World<R> {
-    /// Makes a call, and says what it results in.
-    fn make(&mut self, rt: &R, alloc: Global, call: &Call<'_>) -> Attempt<String>;
-
-    /// All that calls have made of it, as text.
-    fn picture(&self, alloc: Global) -> Result<String, AllocError>;
-}
-
 /// By what calls are made, and whether each that is refused memory is made again.
 pub struct Driver<'a, R> {
     pub rt: &'a R,
@@ -94,9 +89,9 @@ impl<R> Drop for Driver<'_, R> {
     }
 }
 
-impl<R: Print> Driver<'_, R> {
+impl<R: Files + Threads + Wait + Print + Sync> Driver<'_, R> {
     /// Makes a call. Where that is refused memory and calls are made again, a line says whether all is as before, and it is made again.
-    fn make<W: World<R>>(&self, world: &mut W, call: &Call<'_>) -> Attempt<String> {
+    fn make(&self, world: &mut World, call: &Call<'_>) -> Attempt<String> {
         if !self.is_again {
             return world.make(self.rt, self.alloc, call);
         }
@@ -111,7 +106,7 @@ impl<R: Print> Driver<'_, R> {
     }
 
     /// Makes the call of a line.
-    fn make_line<W: World<R>>(&self, world: &mut W, line: &str) -> Attempt<String> {
+    fn make_line(&self, world: &mut World, line: &str) -> Attempt<String> {
         let words = words_of(self.alloc, line)?;
         let [verb, words @ ..] = words.as_slice() else {
             return Err(TrialFault::NotText);
@@ -121,12 +116,7 @@ impl<R: Print> Driver<'_, R> {
     }
 
     /// Makes the calls of a text, which are parted by `; `, with a number in place of each `#`. What the last results in is returned.
-    fn make_numbered<W: World<R>>(
-        &self,
-        world: &mut W,
-        text: &str,
-        number: u64,
-    ) -> Attempt<String> {
+    fn make_numbered(&self, world: &mut World, text: &str, number: u64) -> Attempt<String> {
         let text = numbered(self.alloc, text, number)?;
         let mut said = String::new(self.alloc);
         for line in text.as_str().split("; ") {
@@ -136,7 +126,7 @@ impl<R: Print> Driver<'_, R> {
     }
 
     /// Makes calls for each number of a range: `FIRST..LAST CALLS`. What the last results in is returned.
-    fn make_each<W: World<R>>(&self, world: &mut W, text: &str) -> Attempt<String> {
+    fn make_each(&self, world: &mut World, text: &str) -> Attempt<String> {
         let (range, calls) = text.split_once(' ').ok_or(TrialFault::NotText)?;
         let (first, last) = range.split_once("..").ok_or(TrialFault::NotText)?;
         let mut said = String::new(self.alloc);
@@ -147,7 +137,7 @@ impl<R: Print> Driver<'_, R> {
     }
 
     /// Prints the call of a line, or calls for each number of a range, with what it results in.
-    fn print_line<W: World<R>>(&self, world: &mut W, line: &str) -> Attempt<()> {
+    fn print_line(&self, world: &mut World, line: &str) -> Attempt<()> {
         if line.is_empty() || line.starts_with('#') {
             return Ok(());
         }
@@ -164,7 +154,7 @@ impl<R: Print> Driver<'_, R> {
     }
 
     /// Prints the calls of a text one after another.
-    pub fn print_calls<W: World<R>>(&self, world: &mut W, text: &str) -> Attempt<()> {
+    pub fn print_calls(&self, world: &mut World, text: &str) -> Attempt<()> {
         for line in text.split('\n') {
             self.print_line(world, line)?;
         }

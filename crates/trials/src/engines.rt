@@ -1,6 +1,6 @@
 //! Calls of an engine.
 
-use crate::driver::{Call, World};
+use crate::driver::Call;
 use crate::failing::failing;
 use crate::gates::gated;
 use crate::handed_in::explanation_of;
@@ -160,28 +160,32 @@ fn finished_text(alloc: Global, engine: &Engine) -> Result<String, AllocError> {
     format!(in alloc; "{finished} {outcomes:?} {tables:?} {records:?} {row}")
 }
 
-impl<R: Files + Threads + Wait + Sync> World<R> for Engine {
-    /// `push LINE`; `run START END WORKERS PARTITIONS`; `gated START END WORKERS PARTITIONS HELD PLACE`; `log FILE WORKERS PARTITIONS
-    /// BATCH KEEP`; `fail READS WRITES FLUSHES`; `serial`; of a line alone `parse LINE` and `print LINE`; or a change, or a question.
-    fn make(&mut self, rt: &R, alloc: Global, call: &Call<'_>) -> Attempt<String> {
-        match call.verb {
-            "push" => push(alloc, self, call.rest),
-            "run" => run_by(rt, alloc, self, call, &NoGate),
-            "gated" => gated(rt, alloc, self, call),
-            "log" => run_file(rt, alloc, self, call),
-            "fail" => failing(rt, alloc, call),
-            "serial" => slow_outcomes(alloc, self),
-            "parse" => user_of(alloc, call.rest),
-            "print" => printed(alloc, call.rest),
-            "new" | "trim" | "sweep" | "forget" => change(alloc, self, call),
-            _ => answer(alloc, self, call),
-        }
+/// `push LINE`; `run START END WORKERS PARTITIONS`; `gated START END WORKERS PARTITIONS HELD PLACE`; `log FILE WORKERS PARTITIONS
+/// BATCH KEEP`; `fail READS WRITES FLUSHES`; `serial`; of a line alone `parse LINE` and `print LINE`; or a change, or a question.
+pub fn make<R: Files + Threads + Wait + Sync>(
+    rt: &R,
+    alloc: Global,
+    engine: &mut Engine,
+    call: &Call<'_>,
+) -> Attempt<String> {
+    match call.verb {
+        "push" => push(alloc, engine, call.rest),
+        "run" => run_by(rt, alloc, engine, call, &NoGate),
+        "gated" => gated(rt, alloc, engine, call),
+        "log" => run_file(rt, alloc, engine, call),
+        "fail" => failing(rt, alloc, call),
+        "serial" => slow_outcomes(alloc, engine),
+        "parse" => user_of(alloc, call.rest),
+        "print" => printed(alloc, call.rest),
+        "new" | "trim" | "sweep" | "forget" => change(alloc, engine, call),
+        _ => answer(alloc, engine, call),
     }
+}
 
-    fn picture(&self, alloc: Global) -> Result<String, AllocError> {
-        let (statements, catalog) = (self.log().kept_statements(), self.log().catalog());
-        let (users, tables) = (catalog.users().len(), catalog.tables().len());
-        let finished = finished_text(alloc, self)?;
-        format!(in alloc; "{users} users, {tables} tables, {statements:?} {finished}")
-    }
+/// All that calls have made of an engine, as text.
+pub fn picture(alloc: Global, engine: &Engine) -> Result<String, AllocError> {
+    let (statements, catalog) = (engine.log().kept_statements(), engine.log().catalog());
+    let (users, tables) = (catalog.users().len(), catalog.tables().len());
+    let finished = finished_text(alloc, engine)?;
+    format!(in alloc; "{users} users, {tables} tables, {statements:?} {finished}")
 }

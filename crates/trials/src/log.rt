@@ -1,6 +1,6 @@
 //! Calls of a log of which nothing is dropped.
 
-use crate::driver::{Call, World};
+use crate::driver::Call;
 use crate::foretold::{caught_up, cuts, foretold};
 use crate::references::{partitions, references};
 use log_text::{Version, parse_line_in};
@@ -27,22 +27,16 @@ fn second_version(alloc: Global) -> Attempt<String> {
     beside(format!(in alloc; "{:?}", log.statements()))
 }
 
-impl<R> World<R> for WholeLog {
-    /// A change; `references FIRST PARTITIONS`, of the places from one on; `partition TABLE ROW PARTITIONS`; `ahead` and `caught`, by the
-    /// names of the log; `cuts`; `second`, of a log of version 2.
-    fn make(&mut self, _rt: &R, alloc: Global, call: &Call<'_>) -> Attempt<String> {
-        match call.verb {
-            "references" => references(alloc, self, call),
-            "partition" => partitions(alloc, call),
-            "ahead" => beside(foretold(alloc, self.tail().catalog())),
-            "caught" => beside(caught_up(alloc, self.tail().catalog())),
-            "cuts" => beside(cuts(alloc)),
-            "second" => second_version(alloc),
-            _ => change(alloc, self, call),
-        }
-    }
-
-    fn picture(&self, alloc: Global) -> Result<String, AllocError> {
-        format!(in alloc; "{} places", self.len())
+/// A change; `references FIRST PARTITIONS`, of the places from one on; `partition TABLE ROW PARTITIONS`; `ahead` and `caught`, by the
+/// names of the log; `cuts`; `second`, of a log of version 2.
+pub fn make(alloc: Global, log: &mut WholeLog, call: &Call<'_>) -> Attempt<String> {
+    match call.verb {
+        "references" => references(alloc, log, call),
+        "partition" => partitions(alloc, call),
+        "ahead" => beside(foretold(alloc, log.tail().catalog())),
+        "caught" => beside(caught_up(alloc, log.tail().catalog())),
+        "cuts" => beside(cuts(alloc)),
+        "second" => second_version(alloc),
+        _ => change(alloc, log, call),
     }
 }

@@ -18,41 +18,17 @@ mod handed_in;
 mod log;
 mod references;
 mod versions;
+mod world;
 
 use bohm_base::arguments;
-use both::Both;
-use chains::Chains;
 use driver::Driver;
-use engine::Engine;
 use std::alloc::Global;
 use std::process::ExitCode;
 use std::rt::{Env, Files};
 use std::sync::Wait;
 use std::thread::Threads;
-use trials_base::{Attempt, TrialFault, WholeLog, read_file, text_of};
-
-/// Prints the calls of a text, which are made on an engine.
-fn print_on_engine<R: Files + Threads + Wait + Print + Sync>(
-    driver: &Driver<'_, R>,
-    text: &str,
-) -> Attempt<()> {
-    driver.print_calls(&mut Engine::new(driver.alloc), text)
-}
-
-/// Prints the calls of a text, which are made on a book beside the plain one.
-fn print_on_book<R: Print>(driver: &Driver<'_, R>, text: &str) -> Attempt<()> {
-    driver.print_calls(&mut Both::new(driver.alloc), text)
-}
-
-/// Prints the calls of a text, which are made on a store of versions.
-fn print_on_store<R: Print>(driver: &Driver<'_, R>, text: &str) -> Attempt<()> {
-    driver.print_calls(&mut Chains::new(driver.alloc), text)
-}
-
-/// Prints the calls of a text, which are made on a log.
-fn print_on_log<R: Print>(driver: &Driver<'_, R>, text: &str) -> Attempt<()> {
-    driver.print_calls(&mut WholeLog::new(driver.alloc), text)
-}
+use trials_base::{Attempt, read_file, text_of};
+use world::World;
 
 /// Prints the calls of a text, which are made on the world that a name begins with.
 fn print_text<R: Files + Threads + Wait + Print + Sync>(
@@ -60,14 +36,8 @@ fn print_text<R: Files + Threads + Wait + Print + Sync>(
     name: &str,
     text: &str,
 ) -> Attempt<()> {
-    let (world, _) = name.split_once('.').unwrap_or((name, ""));
-    match world {
-        "engine" => print_on_engine(driver, text),
-        "book" => print_on_book(driver, text),
-        "versions" => print_on_store(driver, text),
-        "log" => print_on_log(driver, text),
-        _ => Err(TrialFault::Call),
-    }
+    let (name, _) = name.split_once('.').unwrap_or((name, ""));
+    driver.print_calls(&mut World::named(driver.alloc, name)?, text)
 }
 
 /// Prints the calls of a file.

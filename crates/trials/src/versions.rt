@@ -3,7 +3,7 @@
 ghost use Rattle.std.specs.Prelude.{◌≡◌, ◌+◌, IfOk};
 ghost use Rattle.chains.specs.Store.{AreBetween};
 
-use crate::driver::{Call, World};
+use crate::driver::Call;
 use chains::{Chains, Trimmed, Version};
 use model_base::{Key, Place, Row, Table};
 use std::alloc::{AllocError, Global};
@@ -126,32 +126,30 @@ fn bounds(alloc: Global, chains: &Chains) -> Result<String, AllocError> {
     format!(in alloc; "mark {mark}, end {end}")
 }
 
-impl<R> World<R> for Chains {
-    /// `row TABLE ROW PLACE`; `trim MARK`; `sweep`; `bounds`; or a change.
-    fn make(&mut self, _rt: &R, alloc: Global, call: &Call<'_>) -> Attempt<String> {
-        match call.verb {
-            "row" => beside(row_text(alloc, self, call.number(2), key_of(call, 0))),
-            "trim" | "sweep" => beside(drop_versions(alloc, self, call)),
-            "bounds" => beside(bounds(alloc, self)),
-            _ => {
-                change(alloc, self, call)?;
-                beside(String::from_str(alloc, "ok"))
-            }
+/// `row TABLE ROW PLACE`; `trim MARK`; `sweep`; `bounds`; or a change.
+pub fn make(alloc: Global, chains: &mut Chains, call: &Call<'_>) -> Attempt<String> {
+    match call.verb {
+        "row" => beside(row_text(alloc, chains, call.number(2), key_of(call, 0))),
+        "trim" | "sweep" => beside(drop_versions(alloc, chains, call)),
+        "bounds" => beside(bounds(alloc, chains)),
+        _ => {
+            change(alloc, chains, call)?;
+            beside(String::from_str(alloc, "ok"))
         }
     }
+}
 
-    /// What is at the end of the first rows of the first table, and where the store ends.
-    fn picture(&self, alloc: Global) -> Result<String, AllocError> {
-        let end = self.end();
-        let mut text = bounds(alloc, self)?;
-        for row in 0..16_u32 {
-            let key = Key {
-                table: Table(0),
-                row,
-            };
-            let found = row_text(alloc, self, end, key)?;
-            text.push_str(found.as_str())?;
-        }
-        Ok(text)
+/// What is at the end of the first rows of the first table, and where the store ends.
+pub fn picture(alloc: Global, chains: &Chains) -> Result<String, AllocError> {
+    let end = chains.end();
+    let mut text = bounds(alloc, chains)?;
+    for row in 0..16_u32 {
+        let key = Key {
+            table: Table(0),
+            row,
+        };
+        let found = row_text(alloc, chains, end, key)?;
+        text.push_str(found.as_str())?;
     }
+    Ok(text)
 }
