@@ -111,13 +111,13 @@ fn first_text<V: Records>(alloc: Global, view: &mut V) -> Attempt<String> {
 
 /// Which record of a view is next to a user, which after the last, and which is next by another.
 fn next_text<V: Records>(alloc: Global, view: &mut V, users: (u32, u32)) -> Attempt<String> {
-    let holder = Holder {
+    let holder = &Holder {
         grantee: Grantee::User(User(users.0)),
         kind: Kind::Read,
         table: TABLE,
     };
     let slots = view.slots();
-    let (to, later) = (view.next_to(holder, 0), view.next_to(holder, slots));
+    let (to, later) = (view.next_to(*holder, 0), view.next_to(*holder, slots));
     let by = view.next_by(User(users.1), Kind::Read, TABLE, 0);
     beside(format!(in alloc; "; next to {to:?}, then {later:?}, by {by:?}"))
 }
@@ -138,12 +138,19 @@ fn same_view(alloc: Global, both: &Both, place: Place, users: (u32, u32)) -> Att
 }
 
 /// The lines that explain a user's need at a place, and whether they are sound.
-fn lines_text(alloc: Global, book: &Book, place: Place, user: User, need: Need) -> Attempt<String> {
+fn lines_text(
+    alloc: Global,
+    book: &Book,
+    place: Place,
+    user: User,
+    need: &Need,
+) -> Attempt<String> {
     if book.tables().len() <= need.table.0 as usize {
         return Err(TrialFault::Call);
     }
-    let lines = explain_needs(alloc, book, place, user, &[need])?;
-    let sound = are_sound(book, place, user, &[need], &lines);
+    let needs = [*need];
+    let lines = explain_needs(alloc, book, place, user, &needs)?;
+    let sound = are_sound(book, place, user, &needs, &lines);
     beside(format!(in alloc; "{lines:?}, sound: {sound}"))
 }
 
@@ -183,7 +190,7 @@ fn answer(alloc: Global, both: &Both, call: &Call<'_>) -> Attempt<String> {
         "ends" => ends_text(alloc, both, place, users_of(call)),
         "view" => same_view(alloc, both, place, users_of(call)),
         "need" => counted_need(alloc, both, place, user, &need_of(call)),
-        _ => lines_text(alloc, &both.book, place, user, need_of(call)),
+        _ => lines_text(alloc, &both.book, place, user, &need_of(call)),
     }
 }
 

@@ -32,8 +32,10 @@ fn put(alloc: Global, chains: &mut Chains, version: Version, new_end: Place) -> 
     if version.place < chains.end() || new_end <= version.place {
         return Err(TrialFault::Call);
     }
-    let versions = beside(vec![in alloc; version])?;
-    Ok(chains.append(versions, new_end)?)
+    match vec![in alloc; version] {
+        Ok(versions) => Ok(chains.append(versions, new_end)?),
+        Err(_) => Err(TrialFault::Beside),
+    }
 }
 
 /// A version of a row of the first table, which holds its place.
@@ -53,22 +55,24 @@ fn version_of(place: Place, row: u32) -> Version
 }
 
 /// Versions of two rows at a place.
-fn pair_of(alloc: Global, place: u32, rows: (u32, u32)) -> Attempt<Vec<Version>>
+fn pair_of(alloc: Global, place: u32, rows: (u32, u32)) -> Result<Vec<Version>, AllocError>
     ensures { IfOk result (λ versions. AreBetween place (place + 1) versions.items) }
 {
     let place = Place::from(place);
     let (one, other) = (version_of(place, rows.0), version_of(place, rows.1));
-    beside(vec![in alloc; one, other])
+    Ok(vec![in alloc; one, other]?)
 }
 
 /// Appends versions of two rows at a place: `PLACE ROW ROW`.
 fn put_pair(alloc: Global, chains: &mut Chains, call: &Call<'_>) -> Attempt<()> {
     let place = call.count(0);
-    let versions = pair_of(alloc, place, (call.count(1), call.count(2)))?;
     if chains.end() != Place::from(place) {
         return Err(TrialFault::Call);
     }
-    Ok(chains.append(versions, Place::from(place) + 1)?)
+    match pair_of(alloc, place, (call.count(1), call.count(2))) {
+        Ok(versions) => Ok(chains.append(versions, Place::from(place) + 1)?),
+        Err(AllocError) => Err(TrialFault::Beside),
+    }
 }
 
 /// What a store says of a row before a place.
