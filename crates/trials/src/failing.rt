@@ -9,7 +9,7 @@ use std::sync::Wait;
 use std::thread::Threads;
 use trials_base::{Attempt, beside};
 
-/// The log that is run: 39 bytes in six reads.
+/// The log that is run: 40 bytes in six reads.
 const LOG: &[u8] = b"alice CREATE t 1\nalice GRANT READ t bob\n";
 
 /// How many calls go well: all where the word is `-`.
