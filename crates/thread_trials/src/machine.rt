@@ -192,14 +192,7 @@ fn make_events<S: Told, R: Print>(
     section: &Section<'_>,
 ) -> Attempt<()> {
     let (lines, events) = events_of(teller.alloc, section.steps)?;
-    make_lines(
-        teller,
-        machine,
-        other,
-        section.kind,
-        lines.as_slice(),
-        events.as_slice(),
-    )?;
+    make_lines(teller, machine, other, section.kind, lines.as_slice(), events.as_slice())?;
     print_found(teller, machine)
 }
 
@@ -224,10 +217,7 @@ fn print_found<S: Told, R: Print>(teller: &Teller<'_, R>, machine: &Machine<S>) 
         print_place(teller, machine, index)?;
     }
     for slot in 0..machine.statements().slots() {
-        let (place, end) = (
-            machine.statements().granted(slot),
-            machine.state().end(slot),
-        );
+        let (place, end) = (machine.statements().granted(slot), machine.state().end(slot));
         println!(teller.rt; "slot {slot}: the grant of {place} ended at {end:?}")?;
     }
     Ok(())
