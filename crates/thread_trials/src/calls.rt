@@ -8,8 +8,8 @@ use crate::telling::Teller;
 use filling::Ran;
 use filling_base::{Batch, Fills, Tried};
 use model_base::{Outcome, Place};
-use std::alloc::{AllocError, Global};
-use trials_base::{Attempt, TrialFault, number_of, words_of};
+use std::alloc::AllocError;
+use trials_base::{Attempt, TrialFault, number_of};
 use words::{BatchData, Claimed, Holding, Pass, Seen, passes_keep_what_they_know};
 
 /// What a step asks for.
@@ -63,41 +63,33 @@ fn verb_of(word: &str) -> Attempt<Verb> {
     }
 }
 
-/// The step of words: a verb, and the number of a place or 0.
-fn step_of(words: &[&str]) -> Attempt<Option<(Verb, u64)>> {
-    let [verb, words @ ..] = words else {
-        return Ok(None);
+/// Reads a step: a verb, and the number of a place or 0.
+pub fn parse_step(words: &[&str]) -> Attempt<(Verb, u64)> {
+    let verb = verb_of(words.get(0).copied().unwrap_or(""))?;
+    let number = if words.len() > 1 {
+        number_of(words, 1)?
+    } else {
+        0
     };
-    let verb = verb_of(verb)?;
-    if words.is_empty() {
-        return Ok(Some((verb, 0)));
-    }
-    let number = number_of(words, 0)?;
-    Ok(Some((verb, number)))
-}
-
-/// Reads a line as a step, if it is one.
-pub fn parse_step(alloc: Global, line: &str) -> Attempt<Option<(Verb, u64)>> {
-    let words = words_of(alloc, line)?;
-    step_of(words.as_slice())
+    Ok((verb, number))
 }
 
 /// Prints what a step results in.
-fn print_said(rt: &impl Print, number: u64, said: &Said) -> Attempt<()> {
-    let printed = match said {
-        Said::Tried(tried) => println!(rt; "asked for {number}: {tried:?}"),
-        Said::Ran(ran) => println!(rt; "asked for {number}: {ran:?}"),
-        Said::Outcome(found) => println!(rt; "the outcome of {number}: {found:?}"),
-        Said::Seen(seen) => println!(rt; "  another pass looks at {number}: {seen:?}"),
+pub fn print_said(rt: &impl Print, number: u64, said: &Said) -> Attempt<()> {
+    match said {
+        Said::Tried(tried) => println!(rt; "asked for {number}: {tried:?}")?,
+        Said::Ran(ran) => println!(rt; "asked for {number}: {ran:?}")?,
+        Said::Outcome(found) => println!(rt; "the outcome of {number}: {found:?}")?,
+        Said::Seen(seen) => println!(rt; "  another pass looks at {number}: {seen:?}")?,
         Said::Stored(word, end) => println!(rt;
             "  another pass looks at {number}: Done, with {word}, and the end {end:?}"
-        ),
-        Said::Claimed(found) => println!(rt; "  another pass claims {number}: {found:?}"),
-        Said::GivenBack => println!(rt; "  another pass claims {number}: Won, and gives it back"),
-        Said::Placed(all) => println!(rt; "all is placed: {all}"),
-        Said::Bodies(bodies) => println!(rt; "{bodies} bodies were run"),
-    };
-    Ok(printed?)
+        )?,
+        Said::Claimed(found) => println!(rt; "  another pass claims {number}: {found:?}")?,
+        Said::GivenBack => println!(rt; "  another pass claims {number}: Won, and gives it back")?,
+        Said::Placed(all) => println!(rt; "all is placed: {all}")?,
+        Said::Bodies(bodies) => println!(rt; "{bodies} bodies were run")?,
+    }
+    Ok(())
 }
 
 /// The call that was refused memory, if it was.
@@ -199,36 +191,7 @@ fn made<K: Places>(batch: &Batch<K>, pass: Pass, verb: Verb, index: usize) -> (P
     }
 }
 
-/// Makes a step, again if it was refused memory, after which as many places are held as before.
-fn made_again<K: Places, R: Print>(
-    teller: &Teller<'_, R>,
-    batch: &Batch<K>,
-    pass: Pass,
-    verb: Verb,
-    index: usize,
-) -> (Pass, Attempt<Said>)
-    requires pass { IsPassOf batch.now pass }
-    requires within { index < (K.batch batch.now.key).size }
-    ensures { IsPassOf batch.now result.0 }
-{
-    let (pass, other) = batch.split(pass);
-    let held = count_held(batch, other);
-    let (pass, said) = made(batch, pass, verb, index);
-    let Some(call) = refused_call(&said) else {
-        return (pass, Ok(said));
-    };
-    let (pass, other) = batch.split(pass);
-    let is_left = count_held(batch, other) == held;
-    match teller.refused(call, "as before", is_left) {
-        Ok(()) => {
-            let (pass, said) = made(batch, pass, verb, index);
-            (pass, Ok(said))
-        }
-        Err(fault) => (pass, Err(fault)),
-    }
-}
-
-/// Makes a step, and prints what it results in.
+/// Makes a step, again if it was refused memory, after which as many places are held as before, and prints what it results in.
 pub fn print_made<K: Places, R: Print>(
     teller: &Teller<'_, R>,
     batch: &Batch<K>,
@@ -244,7 +207,17 @@ pub fn print_made<K: Places, R: Print>(
     if number < skipped || number - skipped >= key.places() as u64 {
         return Err(TrialFault::Call);
     }
-    let (pass, said) = made_again(teller, batch, pass, verb, (number - skipped) as usize);
-    print_said(teller.rt, number, &said?)?;
+    let index = (number - skipped) as usize;
+    let (pass, other) = batch.split(pass);
+    let held = count_held(batch, other);
+    let (pass, said) = made(batch, pass, verb, index);
+    let Some(call) = refused_call(&said) else {
+        print_said(teller.rt, number, &said)?;
+        return Ok(pass);
+    };
+    let (pass, other) = batch.split(pass);
+    teller.refused(call, "as before", count_held(batch, other) == held)?;
+    let (pass, said) = made(batch, pass, verb, index);
+    print_said(teller.rt, number, &said)?;
     Ok(pass)
 }

@@ -1,6 +1,6 @@
 //! What is left when words are closed and their batch is finished, also after a pass that is dropped with words stored.
 
-ghost use Rattle.std.specs.Prelude.{◌≡◌, ◌<◌, ◌≤◌, ℕ, length, slice_index, true};
+ghost use Rattle.std.specs.Prelude.{◌≡◌, ◌<◌, ◌≤◌, ℕ, length, slice_index};
 ghost use Rattle.words.specs.Passes.{IsPassOf};
 
 use crate::opening::Call;
@@ -8,8 +8,7 @@ use crate::steps::print_row;
 use crate::telling::{NO_MEMORY, Teller};
 use filling::{CompletedBatch, RangeKey, finish};
 use filling_base::{Batch, Fills};
-use std::alloc::Global;
-use trials_base::Attempt;
+use trials_base::{Attempt, TrialFault};
 use words::{
     BatchData, Claimed, Closed, Holding, Pass, Seen, own_events_tell_what_is_held,
     passes_keep_what_they_know,
@@ -38,27 +37,8 @@ fn print_finished<C: CompletedBatch>(
     Ok(())
 }
 
-/// Closes the words of a batch and finishes it, and prints the claims and what each place is then. An error is that finishing was refused
-/// memory, before anything was printed.
-fn print_closed(
-    rt: &impl Print,
-    alloc: Global,
-    batch: Batch<RangeKey<'_>>,
-    pass: Pass,
-) -> Result<Attempt<()>, Call>
-    requires pass { IsPassOf batch pass }
-    requires placed { pass.view.placed ≡ true }
-{
-    let (key, closed) = batch.close(pass);
-    let places = key.places();
-    match finish(alloc, key, &closed) {
-        Ok(done) => Ok(print_finished(rt, &closed, &done, places)),
-        Err(_) => Err(Call::Finish),
-    }
-}
-
-/// Makes the steps of a row, closes the words and finishes the batch. An error is that finishing was refused memory where nothing was
-/// printed.
+/// Makes the steps of a row, closes the words and finishes the batch, and prints the claims and what each place is then. An error is that
+/// finishing was refused memory where nothing was printed.
 pub fn try_closed<R: Print>(
     teller: &Teller<'_, R>,
     batch: Batch<RangeKey<'_>>,
@@ -67,14 +47,20 @@ pub fn try_closed<R: Print>(
 ) -> Result<Attempt<()>, Call>
     requires { IsPassOf batch pass }
 {
-    let printed = match print_row(teller, &batch, pass, steps) {
-        Ok(pass) => print_closed(teller.rt, teller.alloc, batch, pass),
+    let pass = match print_row(teller, &batch, pass, steps) {
+        Ok(pass) => pass,
         Err(fault) => return Ok(Err(fault)),
     };
-    if printed.is_err() && !steps.is_empty() {
-        return Ok(Err(NO_MEMORY));
+    if !pass.knows_placed() {
+        return Ok(Err(TrialFault::Call));
     }
-    printed
+    let (key, closed) = batch.close(pass);
+    let places = key.places();
+    match finish(teller.alloc, key, &closed) {
+        Ok(done) => Ok(print_finished(teller.rt, &closed, &done, places)),
+        Err(_) if steps.is_empty() => Err(Call::Finish),
+        Err(_) => Ok(Err(NO_MEMORY)),
+    }
 }
 
 /// Takes the first place by a pass that stores its first two own words, as another batch of the same places has them, and is dropped.

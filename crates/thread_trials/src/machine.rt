@@ -1,7 +1,6 @@
 //! The machine over places of a log: its events, one by one or at once, and what places and records result in.
 
 ghost use Rattle.std.specs.Prelude.{◌<◌, ◌≤◌, length};
-ghost use Rattle.bohm_core_base.specs.Batch.{batch_slots};
 ghost use Rattle.engine.specs.RunState.{IsRunState};
 
 use crate::events::events_of;
@@ -12,44 +11,9 @@ use bohm_core::{Machine, State, Statements};
 use bohm_core_base::Event;
 use engine::RunState;
 use log_machine::{OfLog, done_outcome, done_words};
-use model_base::{MOST_PARTITIONS, Outcome, Place};
+use model_base::{MOST_PARTITIONS, Place};
 use std::alloc::{AllocError, Global};
 use trials_base::{Attempt, WholeLog, new_batch};
-
-/// A batch of places of a log.
-trait Told: Statements + Drop {
-    /// The outcome of a place, if it is done.
-    fn outcome(
-        alloc: Global,
-        machine: &Machine<Self>,
-        index: usize,
-    ) -> Result<Option<Outcome>, AllocError>;
-
-    /// The own words of a place, if it is done.
-    fn words(machine: &Machine<Self>, index: usize) -> Option<&[u64]>;
-
-    /// The place of the grant of a slot.
-    fn granted(&self, slot: usize) -> Place
-        requires { slot < length (batch_slots (Self.batch self.now)) };
-}
-
-impl Told for OfLog<'_> {
-    fn outcome(
-        alloc: Global,
-        machine: &Machine<Self>,
-        index: usize,
-    ) -> Result<Option<Outcome>, AllocError> {
-        done_outcome(alloc, machine, index)
-    }
-
-    fn words(machine: &Machine<Self>, index: usize) -> Option<&[u64]> {
-        done_words(machine, index)
-    }
-
-    fn granted(&self, slot: usize) -> Place {
-        self.batch().grant(slot).place
-    }
-}
 
 /// All that is stored.
 fn picture<S: Statements + Drop>(
@@ -91,45 +55,26 @@ fn concerned(alloc: Global, state: &State, event: &Event) -> Result<String, Allo
     }
 }
 
-/// What is stored now of what an event is about, or that nothing is other than it was.
-fn changed<S: Statements + Drop>(
-    alloc: Global,
-    machine: &Machine<S>,
-    event: &Event,
-    before: &str,
-) -> Result<String, AllocError> {
-    if picture(alloc, machine)?.as_str() == before {
-        return String::from_str(alloc, "nothing changes");
-    }
-    concerned(alloc, machine.state(), event)
-}
-
-/// Makes an event, again if it was refused memory.
-fn apply_again<S: Statements + Drop, R: Print>(
-    teller: &Teller<'_, R>,
-    machine: &mut Machine<S>,
-    event: &Event,
-    before: &str,
-) -> Attempt<()> {
-    if machine.apply(event).is_ok() {
-        return Ok(());
-    }
-    let is_left = picture(teller.alloc, machine)?.as_str() == before;
-    teller.refused("Machine::apply", "as before", is_left)?;
-    Ok(machine.apply(event)?)
-}
-
-/// Makes an event, and prints what changed.
+/// Makes an event, again if it was refused memory, and prints what is stored now of what it is about, if anything changed.
 fn print_event<S: Statements + Drop, R: Print>(
     teller: &Teller<'_, R>,
     machine: &mut Machine<S>,
     line: &str,
     event: &Event,
 ) -> Attempt<()> {
-    let before = picture(teller.alloc, machine)?;
-    apply_again(teller, machine, event, before.as_str())?;
-    let now = changed(teller.alloc, machine, event, before.as_str())?;
-    println!(teller.rt; "{line}: {now}")?;
+    let alloc = teller.alloc;
+    let before = picture(alloc, machine)?;
+    if machine.apply(event).is_err() {
+        let left = picture(alloc, machine)?;
+        teller.refused("Machine::apply", "as before", left == before)?;
+        machine.apply(event)?;
+    }
+    if picture(alloc, machine)? == before {
+        println!(teller.rt; "{line}: nothing changes")?;
+    } else {
+        let now = concerned(alloc, machine.state(), event)?;
+        println!(teller.rt; "{line}: {now}")?;
+    }
     Ok(())
 }
 
@@ -166,17 +111,16 @@ fn make_list<S: Statements + Drop, R: Print>(
     Ok(())
 }
 
-/// Makes the events, a line for each: one by one, or at once with a second machine to compare with.
-fn make_lines<S: Statements + Drop, R: Print>(
+/// Makes the events of a trial, with a second machine to compare with.
+fn make_events<S: Statements + Drop, R: Print>(
     teller: &Teller<'_, R>,
     machine: &mut Machine<S>,
     other: &mut Machine<S>,
-    kind: Kind,
-    lines: &[&str],
-    events: &[Event],
+    section: &Section<'_>,
 ) -> Attempt<()> {
-    if kind == Kind::List {
-        return make_list(teller, machine, other, events);
+    let (lines, events) = events_of(teller.alloc, section.steps)?;
+    if section.kind == Kind::List {
+        return make_list(teller, machine, other, events.as_slice());
     }
     for (line, event) in lines.iter().zip(events.iter()) {
         print_event(teller, machine, line, event)?;
@@ -184,41 +128,24 @@ fn make_lines<S: Statements + Drop, R: Print>(
     Ok(())
 }
 
-/// Makes the events of a trial, and prints what is found then.
-fn make_events<S: Told, R: Print>(
-    teller: &Teller<'_, R>,
-    machine: &mut Machine<S>,
-    other: &mut Machine<S>,
-    section: &Section<'_>,
-) -> Attempt<()> {
-    let (lines, events) = events_of(teller.alloc, section.steps)?;
-    make_lines(teller, machine, other, section.kind, lines.as_slice(), events.as_slice())?;
-    print_found(teller, machine)
-}
-
-/// Prints what a place resulted in.
-fn print_place<S: Told, R: Print>(
-    teller: &Teller<'_, R>,
-    machine: &Machine<S>,
-    index: usize,
-) -> Attempt<()> {
-    let Some(outcome) = S::outcome(teller.alloc, machine, index)? else {
-        return Ok(println!(teller.rt; "index {index} is not done")?);
-    };
-    let references = machine.state().references(index);
-    let own = S::words(machine, index).unwrap_or(&[]);
-    println!(teller.rt; "index {index} refers to {references:?} and has {own:?}: {outcome:?}")?;
-    Ok(())
-}
-
 /// Prints what each place resulted in, and where the record of each slot ended.
-fn print_found<S: Told, R: Print>(teller: &Teller<'_, R>, machine: &Machine<S>) -> Attempt<()> {
-    for index in 0..machine.state().places() {
-        print_place(teller, machine, index)?;
+fn print_found(rt: &impl Print, alloc: Global, machine: &Machine<OfLog<'_>>) -> Attempt<()> {
+    let (state, batch) = (machine.state(), machine.statements().batch());
+    for index in 0..batch.size() {
+        match done_outcome(alloc, machine, index)? {
+            None => println!(rt; "index {index} is not done")?,
+            Some(outcome) => {
+                let references = state.references(index);
+                let own = done_words(machine, index).unwrap_or(&[]);
+                println!(rt;
+                    "index {index} refers to {references:?} and has {own:?}: {outcome:?}"
+                )?;
+            }
+        }
     }
-    for slot in 0..machine.statements().slots() {
-        let (place, end) = (machine.statements().granted(slot), machine.state().end(slot));
-        println!(teller.rt; "slot {slot}: the grant of {place} ended at {end:?}")?;
+    for slot in 0..batch.slot_count() {
+        let (place, end) = (batch.grant(slot).place, state.end(slot));
+        println!(rt; "slot {slot}: the grant of {place} ended at {end:?}")?;
     }
     Ok(())
 }
@@ -245,24 +172,6 @@ fn machine_of<'a>(
     }
 }
 
-/// Makes the events of a trial, with a second machine to compare with.
-fn try_events<'a, R: Print>(
-    teller: &Teller<'_, R>,
-    log: &'a WholeLog,
-    before: &'a RunState,
-    partitions: usize,
-    section: &Section<'_>,
-    machine: &mut Machine<OfLog<'a>>,
-) -> Result<Attempt<()>, Call>
-    requires partitions { 0 < partitions }
-    requires few { partitions ≤ MOST_PARTITIONS }
-    requires within { section.now.first < length log.now.statements }
-    requires before { IsRunState log.now.statements section.now.first before.now.chains before.now.book }
-{
-    let mut other = machine_of(teller.alloc, log, before, section.first, partitions)?;
-    Ok(make_events(teller, machine, &mut other, section))
-}
-
 /// Makes a trial of the machine.
 pub fn try_machine<R: Print>(
     teller: &Teller<'_, R>,
@@ -277,5 +186,9 @@ pub fn try_machine<R: Print>(
     requires before { IsRunState log.now.statements section.now.first before.now.chains before.now.book }
 {
     let mut machine = machine_of(teller.alloc, log, before, section.first, partitions)?;
-    try_events(teller, log, before, partitions, section, &mut machine)
+    let mut other = machine_of(teller.alloc, log, before, section.first, partitions)?;
+    match make_events(teller, &mut machine, &mut other, section) {
+        Ok(()) => Ok(print_found(teller.rt, teller.alloc, &machine)),
+        Err(fault) => Ok(Err(fault)),
+    }
 }

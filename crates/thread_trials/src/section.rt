@@ -61,40 +61,33 @@ fn kind_of(word: &str) -> Attempt<Kind> {
     }
 }
 
-/// The trial of the words of its first line and its steps.
-fn section_of<'a>(words: &[&str], steps: &'a str) -> Attempt<Section<'a>> {
-    let first = number_of(words, 0)?;
-    let partitions = number_of(words, 1)? as usize;
-    let kind = kind_of(words.get(2).copied().unwrap_or("row"))?;
-    let workers = number_of(words, 3).unwrap_or(0) as usize;
-    Ok(Section {
-        first,
-        partitions,
-        kind,
-        workers,
-        steps,
-    })
-}
-
 /// Reads a trial, without the word `batch`.
 pub fn parse_section(alloc: Global, text: &str) -> Attempt<Section<'_>> {
     let (line, steps) = text.split_once('\n').unwrap_or((text, ""));
     let words = words_of(alloc, line)?;
-    section_of(words.as_slice(), steps)
-}
-
-/// The log of so many lines that add to so many rows.
-fn counted_log(alloc: Global, words: &[&str]) -> Attempt<WholeLog> {
-    let lines = number_of(words, 0)? as usize;
-    let rows = number_of(words, 1)? as usize;
-    adding_log(alloc, lines, rows)
+    let words = words.as_slice();
+    Ok(Section {
+        first: number_of(words, 0)?,
+        partitions: number_of(words, 1)? as usize,
+        kind: kind_of(words.get(2).copied().unwrap_or("row"))?,
+        workers: if words.len() > 3 {
+            number_of(words, 3)? as usize
+        } else {
+            0
+        },
+        steps,
+    })
 }
 
 /// The log of these lines.
 pub fn parse_log(alloc: Global, text: &str) -> Attempt<WholeLog> {
     if let Some(counts) = text.strip_prefix("adding ") {
         let words = words_of(alloc, counts)?;
-        return counted_log(alloc, words.as_slice());
+        let (lines, rows) = (
+            number_of(words.as_slice(), 0)?,
+            number_of(words.as_slice(), 1)?,
+        );
+        return adding_log(alloc, lines as usize, rows as usize);
     }
     let lines = text.split('\n').collect::<Vec<&str>>(alloc)?;
     log_of(alloc, lines.as_slice())

@@ -1,6 +1,6 @@
 //! Rows of steps on a batch, a line for each.
 
-ghost use Rattle.std.specs.Prelude.{◌≡◌, ◌<◌, ◌≤◌, ◌+◌, IfOk, true};
+ghost use Rattle.std.specs.Prelude.{◌≡◌, ◌<◌, ◌≤◌, ◌+◌, IfOk};
 ghost use Rattle.words.specs.Passes.{IsPassOf};
 ghost use Rattle.workers.specs.Placing.{HavePlaced};
 
@@ -8,7 +8,7 @@ use crate::calls::{parse_step, print_made};
 use crate::places::Places;
 use crate::telling::Teller;
 use filling_base::{Advanced, Batch, BatchPlacer};
-use trials_base::{Attempt, TrialFault, number_of};
+use trials_base::{Attempt, TrialFault, number_of, words_of};
 use words::{BatchData, Claimed, Holding, Pass};
 
 /// Makes the steps one after another.
@@ -23,7 +23,9 @@ fn print_steps<K: Places, R: Print>(
 {
     let mut last = pass;
     for step in steps.split('\n') {
-        if let Some((verb, number)) = parse_step(teller.alloc, step)? {
+        let words = words_of(teller.alloc, step)?;
+        if !words.is_empty() {
+            let (verb, number) = parse_step(words.as_slice())?;
             last = print_made(teller, batch, last, verb, number)?;
         }
     }
@@ -58,19 +60,7 @@ fn print_held<K: Places, R: Print>(
     }
 }
 
-/// The steps of a row before, during and after those that are made while a place is held, and its index, if some are: between the lines
-/// `hold INDEX` and `back`.
-fn parts_of(steps: &str) -> Attempt<(&str, Option<usize>, &str, &str)> {
-    let Some((before, rest)) = steps.split_once("hold ") else {
-        return Ok((steps, None, "", ""));
-    };
-    let (held, after) = rest.split_once("back\n").ok_or(TrialFault::NotText)?;
-    let (index, during) = held.split_once('\n').ok_or(TrialFault::NotText)?;
-    let index = number_of([index].as_slice(), 0)? as usize;
-    Ok((before, Some(index), during, after))
-}
-
-/// Makes the steps of a row on a batch that is placed, of which the pass knows so.
+/// Makes the steps of a row on a batch that is placed, some of them between the lines `hold INDEX` and `back`.
 pub fn print_row<K: Places, R: Print>(
     teller: &Teller<'_, R>,
     batch: &Batch<K>,
@@ -78,20 +68,17 @@ pub fn print_row<K: Places, R: Print>(
     steps: &str,
 ) -> Attempt<Pass>
     requires { IsPassOf batch.now pass }
-    ensures pass { IfOk result (λ pass. IsPassOf batch.now pass) }
-    ensures placed { IfOk result (λ pass. pass.view.placed ≡ true) }
+    ensures { IfOk result (λ pass. IsPassOf batch.now pass) }
 {
-    let (before, held, during, after) = parts_of(steps)?;
-    let mut last = print_steps(teller, batch, pass, before)?;
-    if let Some(index) = held {
-        last = print_held(teller, batch, last, index, during)?;
-    }
-    let last = print_steps(teller, batch, last, after)?;
-    if last.knows_placed() {
-        Ok(last)
-    } else {
-        Err(TrialFault::Call)
-    }
+    let Some((before, rest)) = steps.split_once("hold ") else {
+        return print_steps(teller, batch, pass, steps);
+    };
+    let (held, after) = rest.split_once("back\n").ok_or(TrialFault::NotText)?;
+    let (index, during) = held.split_once('\n').ok_or(TrialFault::NotText)?;
+    let index = number_of([index].as_slice(), 0)? as usize;
+    let pass = print_steps(teller, batch, pass, before)?;
+    let pass = print_held(teller, batch, pass, index, during)?;
+    print_steps(teller, batch, pass, after)
 }
 
 /// Makes a step of a placer, again if it was refused memory.
