@@ -15,6 +15,7 @@ pub mod Ends
 pub mod Cuts
 pub mod Made
 pub mod Growth
+pub mod Failed
 pub mod Losses
 pub mod Logs
 pub mod Granted

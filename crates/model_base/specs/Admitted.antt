@@ -88,3 +88,12 @@ WasDenied (Some (Outcome.Aborted step reason)) = ⊥
 WasDenied (Some (Outcome.Undeclared step)) = ⊥
 WasDenied (Some Outcome.Created) = ⊥
 WasDenied None = ⊥
+
+-- the outcome of a statement that failed: it was denied, or its body was aborted, or touched what isn't declared
+abbrev pub HasFailed : Option Outcome → Type 0
+HasFailed (Some (Outcome.Denied need cause)) = Unit {0}
+HasFailed (Some (Outcome.Aborted step reason)) = Unit {0}
+HasFailed (Some (Outcome.Undeclared step)) = Unit {0}
+HasFailed (Some (Outcome.Done outputs deed)) = ⊥
+HasFailed (Some Outcome.Created) = ⊥
+HasFailed None = ⊥

@@ -26,3 +26,9 @@ abbrev pub version_cells : List Statement → ℕ → List (Option (List ℤ))
 version_cells log place =
     map (λ (access : Access). rows_before log (place + 1) access.key.table access.key.row)
     (option_map_or writes_of (slice_get log place) [])
+
+-- the rows before a place of each key that it may write
+abbrev pub copied_cells : List Statement → ℕ → List (Option (List ℤ))
+copied_cells log place =
+    map (λ (access : Access). rows_before log place access.key.table access.key.row)
+    (option_map_or writes_of (slice_get log place) [])

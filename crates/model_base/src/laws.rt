@@ -1,9 +1,10 @@
 //! What holds of every list of deeds, of the grants in force after it, and of every log.
 
 ghost use Rattle.std.specs.Prelude.{◌==◌, ◌≡◌, ◌↔◌, ℕ, ◌+◌, ◌<◌, ◌≤◌, true, false, None, List, [], ◌∷◌, ◌++◌, All, Any, Contains, take, if◌then◌else◌};
-ghost use Rattle.model_base.specs.Admitted.{IsAsked, IsDenial, IsPrivileged, WasAdmitted, WasDenied};
+ghost use Rattle.model_base.specs.Admitted.{HasFailed, IsAsked, IsDenial, IsPrivileged, WasAdmitted, WasDenied};
 ghost use Rattle.model_base.specs.Laws.{AreGrantsOrRevocation, GrowsAt, IsLastLoss, IsPart, IsRising};
-ghost use Rattle.model_base.specs.Outcomes.{World, cause, deeds_before, deeds_of, missing, needs, outcome, owners};
+ghost use Rattle.model_base.specs.Outcomes.{World, cause, deeds_before, deeds_of, missing, needs, outcome, owners, rows_before};
+ghost use Rattle.model_base.specs.Versions.{copied_cells, version_cells};
 ghost use Rattle.model_base.specs.Paths.{LeadsTo, path};
 ghost use Rattle.model_base.specs.Ranks.{deed_number, place_of_rank, rank};
 ghost use Rattle.model_base.specs.Privileges.{IsProper, IsProperAfter, MayFollow, gives, has, holds, is_among, kept, lends_to, option_of, owns, place_of, replayed};
@@ -120,6 +121,17 @@ pub fn statements_make_deeds_in_order()
 pub fn places_make_grants_or_one_revocation()
     ensures { (log : List Statement) (place : ℕ)
         → GrowsAt place (deeds_before log place) (deeds_before log (place + 1)) }
+{}
+
+/// What fails changes nothing: where a place is denied, or its body doesn't complete, each row and the deeds before the next place are those
+/// before it, and the versions that it leaves are copies.
+pub fn failures_change_nothing()
+    ensures rows { (log : List Statement) (place : ℕ) → HasFailed (outcome log place)
+        → rows_before log (place + 1) ≡ rows_before log place }
+    ensures deeds { (log : List Statement) (place : ℕ) → HasFailed (outcome log place)
+        → deeds_before log (place + 1) ≡ deeds_before log place }
+    ensures cells { (log : List Statement) (place : ℕ) → HasFailed (outcome log place)
+        → version_cells log place ≡ copied_cells log place }
 {}
 
 /// The deeds before a place of a log are proper: their places rise, below this one, those of one place are grants in the order of their

@@ -34,10 +34,10 @@ pub use growing_laws::earlier_places_stand;
 pub use hash_seed::HashSeed;
 pub use laws::{
     admitted_exactly_when_privileged, causes_are_last_losses, causes_are_revocations,
-    deeds_before_are_proper, ended_grants_stay_ended, fewer_grants_keep_fewer, grants_end_none,
-    held_needs_have_paths, paths_take_the_earliest, places_make_grants_or_one_revocation,
-    public_is_every_user, ranks_follow_places, revocations_add_none,
-    statements_make_deeds_in_order,
+    deeds_before_are_proper, ended_grants_stay_ended, failures_change_nothing,
+    fewer_grants_keep_fewer, grants_end_none, held_needs_have_paths, paths_take_the_earliest,
+    places_make_grants_or_one_revocation, public_is_every_user, ranks_follow_places,
+    revocations_add_none, statements_make_deeds_in_order,
 };
 pub use limits::{
     MOST_ACCESSES, MOST_BATCH_STATEMENTS, MOST_COLUMNS, MOST_GRANTEES, MOST_KEPT_BATCHES,
