@@ -17,3 +17,6 @@ pub const MOST_GIVEN_BYTES: u64 = 1 << 62;
 
 /// Bytes for which there is room where a report waits to be written.
 pub const PENDING_BYTES: usize = 65_536;
+
+// What the format of a log promises, each limit once more by its number.
+const _: () = prove!(MOST_LINE_BYTES == 4_096 && MOST_GIVEN_BYTES == 4_611_686_018_427_387_904);

@@ -44,3 +44,16 @@ pub const MOST_WORKERS: usize = 64;
 
 /// Batches before which the rows are kept; a run that is to keep more is refused.
 pub const MOST_KEPT_BATCHES: u64 = 65_535;
+
+// What the format of a log promises, and then what the options of a run do, each limit once more by its number.
+const _: () = prove!(
+    MOST_ACCESSES == 16 && MOST_STEPS == 64 && MOST_OUTPUTS == 8 && MOST_REGISTERS == 16
+);
+
+const _: () = prove!(MOST_COLUMNS == 8 && MOST_GRANTEES == 8 && MOST_NAME_BYTES == 32);
+
+const _: () = prove!(MOST_NAMES == 65_536 && MOST_PLACES == 4_294_967_295);
+
+const _: () = prove!(MOST_WORKERS == 64 && MOST_PARTITIONS == 64);
+
+const _: () = prove!(MOST_BATCH_STATEMENTS == 65_536 && MOST_KEPT_BATCHES == 65_535);
