@@ -36,15 +36,15 @@ pub enum LineFault {
     /// A register of the number `MOST_REGISTERS` or above.
     #[error("no such register")]
     BadRegister = 9,
-    /// A grantee of a deed after `MOST_GRANTEES`.
-    #[error("too many grantees")]
-    TooManyGrantees = 11,
-    /// A grantee that its deed names before.
-    #[error("a grantee twice")]
-    DuplicateGrantee = 12,
     /// No fault of the line: memory ran out.
     #[error("out of memory")]
     NoMemory = 10,
+    /// A grantee that its deed names before.
+    #[error("a grantee twice")]
+    DuplicateGrantee = 11,
+    /// A grantee of a deed after `MOST_GRANTEES`.
+    #[error("too many grantees")]
+    TooManyGrantees = 12,
 }
 
 impl From<AllocError> for LineFault {
