@@ -207,7 +207,7 @@ pub fn make(alloc: Global, both: &mut Both, call: &Call<'_>) -> Attempt<String> 
     }
 }
 
-/// All that calls have made of a both, as text.
+/// The tables and the records of both books, as text.
 pub fn picture(alloc: Global, both: &Both) -> Result<String, AllocError> {
     format!(in alloc; "{:?} {:?}", both.book.tables(), both.book.records())
 }

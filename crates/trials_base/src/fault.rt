@@ -51,21 +51,6 @@ pub enum TrialFault {
     /// The words of the command line can't be had.
     #[error("cannot read the arguments")]
     Arguments(#[from] ArgumentFault),
-    /// A line of a file of cases begins with no verb.
-    #[error("no such verb")]
-    NoSuchVerb,
-    /// A word names no run.
-    #[error("no such run")]
-    NoSuchRun,
-    /// A word names no log.
-    #[error("no such log")]
-    NoSuchLog,
-    /// A verb, a run or a log has too few words after it, or too many.
-    #[error("too few words, or too many")]
-    Words,
-    /// A word is no number, or a number that is too large.
-    #[error("not a number")]
-    NotANumber,
     /// A file can't be read, or what is said can't be printed.
     #[error("cannot read or print")]
     Io,
