@@ -3,7 +3,7 @@
 use model_base::Place;
 
 /// What is asked about a place of a log.
-#[derive(Clone, Copy, Debug, PartialEq, Eq)]
+#[derive(Clone, Copy)]
 pub struct Question {
     /// The place: the index of a statement among those that the log accepted, from 0 on.
     pub place: Place,

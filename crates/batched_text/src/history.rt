@@ -3,7 +3,7 @@
 use crate::settings::Settings;
 
 /// Whether the statements and outcomes of finished places are kept for those who look at them later.
-#[derive(Clone, Copy, Debug, PartialEq, Eq)]
+#[derive(Clone, Copy)]
 pub(crate) enum History {
     /// All of them.
     Kept,

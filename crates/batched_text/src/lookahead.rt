@@ -25,7 +25,7 @@ use std::thread::Threads;
 const FIRST_STRETCH_BYTES: usize = 65_536;
 
 /// How lines are read before their turn.
-#[derive(Clone, Copy, Debug, PartialEq, Eq)]
+#[derive(Clone, Copy)]
 pub struct ReadingAhead {
     /// How many threads read, beside the one that runs. With 0 each line is read in its turn.
     pub threads: usize,

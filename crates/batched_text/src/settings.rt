@@ -6,7 +6,7 @@ ghost use Rattle.batched_text.specs.Settings.{are_within_limits, mark_behind};
 use model_base::{MOST_BATCH_STATEMENTS, MOST_KEPT_BATCHES, MOST_PARTITIONS, MOST_WORKERS, Place};
 
 /// How a log is cut into batches, how each is placed and run, and of how many the rows before them are kept.
-#[derive(Clone, Copy, Debug, PartialEq, Eq)]
+#[derive(Clone, Copy)]
 pub struct Settings {
     /// How many workers run a batch: 1 to `MOST_WORKERS`. The caller's thread is the first, each other has a thread of its own.
     pub workers: usize,

@@ -3,7 +3,7 @@
 use model_base::Reason;
 
 /// How a body ends. Steps are counted from 0.
-#[derive(Clone, Copy, PartialEq, Eq, Debug)]
+#[derive(Clone, Copy, PartialEq, Eq)]
 pub enum BodyEnd {
     /// Each step was done or passed over.
     Completed,

@@ -3,7 +3,7 @@
 use std::fmt;
 
 /// How progress is shown on standard error.
-#[derive(Clone, Copy, Debug, PartialEq, Eq)]
+#[derive(Clone, Copy)]
 pub struct ProgressStyle {
     /// Whether it is one line of a terminal, which is written again each time, and not a line of its own each time.
     pub is_one_line: bool,
@@ -19,7 +19,7 @@ impl ProgressStyle {
 }
 
 /// How much of a log is read, after some milliseconds. Lines are counted in a sample of what was read.
-#[derive(Clone, Copy, Debug, PartialEq, Eq)]
+#[derive(Clone, Copy)]
 pub struct Reached {
     /// The bytes that were read.
     pub bytes: u64,

@@ -17,7 +17,7 @@ use std::alloc::Global;
 use std::io::Read;
 
 /// What a line of the log became.
-#[derive(Clone, Copy, Debug, PartialEq, Eq)]
+#[derive(Clone, Copy)]
 pub enum LineOutcome {
     /// The heading of version 2, which is no statement.
     Heading,

@@ -12,14 +12,14 @@ use model_base::{Key, MOST_ACCESSES, Place, Row};
 use std::collections::VecDeque;
 
 /// What a row was after a place that declared to write it: a version without its key.
-#[derive(Clone, Copy, PartialEq, Eq, Debug)]
+#[derive(Clone, Copy)]
 pub(crate) struct Dated {
     pub(crate) place: Place,
     pub(crate) row: Option<Row>,
 }
 
 /// A version that a newer one of its key replaced, and the place of the newer one.
-#[derive(Clone, Copy, PartialEq, Eq, Debug)]
+#[derive(Clone, Copy)]
 pub(crate) struct Replaced {
     pub(crate) by: Place,
     pub(crate) key: Key,

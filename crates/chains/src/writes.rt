@@ -11,7 +11,7 @@ use model_base::{Key, Place, Row};
 use std::collections::VecDeque;
 
 /// A place of the log that wrote a key.
-#[derive(Clone, Copy, PartialEq, Eq, Debug)]
+#[derive(Clone, Copy)]
 pub(crate) struct Written {
     pub(crate) place: Place,
     pub(crate) key: Key,

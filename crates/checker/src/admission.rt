@@ -14,7 +14,7 @@ use grants::{Records, shown_views_tell_causes};
 use model_base::{Cause, Need, Statement};
 
 /// Whether a statement may run.
-#[derive(Clone, Copy, PartialEq, Eq, Debug)]
+#[derive(Clone, Copy)]
 pub enum Admission {
     /// Its user holds each privilege that it needs.
     Admitted,

@@ -8,7 +8,7 @@ use grants::{Records, denial};
 use model_base::{Cause, Form, Need, Needs, User};
 
 /// A need that a user doesn't hold, with its cause.
-#[derive(Clone, Copy, PartialEq, Eq, Debug)]
+#[derive(Clone, Copy)]
 pub(crate) struct Lack {
     pub need: Need,
     pub cause: Cause,

@@ -16,7 +16,7 @@ use clap::{ArgMatches, Error};
 use std::alloc::Global;
 
 /// Where a log is read from.
-#[derive(Clone, Copy, Debug, PartialEq, Eq)]
+#[derive(Clone, Copy)]
 pub enum Source<'a> {
     StandardInput,
     /// The file of this path.
@@ -24,7 +24,7 @@ pub enum Source<'a> {
 }
 
 /// What the program is asked to do.
-#[derive(Clone, Copy, Debug, PartialEq, Eq)]
+#[derive(Clone, Copy)]
 pub enum Command<'a> {
     /// Execute a log in this way and write its report.
     Run(Source<'a>, Way),
@@ -53,7 +53,7 @@ impl<'a> Command<'a> {
 }
 
 /// What the words of the command line ask for.
-#[derive(Clone, Copy, Debug, PartialEq, Eq)]
+#[derive(Clone, Copy)]
 pub struct Request<'a> {
     /// What is done.
     pub command: Command<'a>,
@@ -62,7 +62,7 @@ pub struct Request<'a> {
 }
 
 /// The subcommands.
-#[derive(Clone, Copy, Debug, PartialEq, Eq)]
+#[derive(Clone, Copy)]
 pub(crate) enum Verb {
     Run,
     Serial,
@@ -71,7 +71,7 @@ pub(crate) enum Verb {
 }
 
 /// Why the words are no command, with the text to print.
-#[derive(Debug, Drop)]
+#[derive(Drop)]
 pub enum Usage {
     /// The words are wrong.
     Fault(String),
@@ -84,7 +84,7 @@ pub enum Usage {
 }
 
 /// Why the program ends before its work is done.
-#[derive(Debug, Drop)]
+#[derive(Drop)]
 pub enum ProgramFault {
     /// The words can't be had.
     Arguments(ArgumentFault),

@@ -138,7 +138,7 @@ fn number_of(found: &ArgMatches<'_>, option: &NumberOption) -> Option<u64>
 }
 
 /// A number that need not be among the words.
-#[derive(Clone, Copy, Debug, PartialEq, Eq)]
+#[derive(Clone, Copy)]
 pub enum Choice {
     /// It isn't: the usual number serves.
     Usual,
@@ -170,7 +170,7 @@ fn choice_of(found: &ArgMatches<'_>, option: &NumberOption) -> Option<Choice>
 }
 
 /// How a log is run.
-#[derive(Clone, Copy, Debug, PartialEq, Eq)]
+#[derive(Clone, Copy)]
 pub enum Way {
     /// Place after place, while this many threads read lines ahead. The usual number is as many as pay.
     InOrder(Choice),
@@ -186,7 +186,7 @@ fn is_alone(settings: &Settings) -> bool
 }
 
 /// Whether progress is shown on standard error.
-#[derive(Clone, Copy, Debug, PartialEq, Eq)]
+#[derive(Clone, Copy)]
 pub enum Progress {
     /// It is.
     Shown,
@@ -334,7 +334,7 @@ pub(crate) fn question_of(found: &ArgMatches<'_>) -> Option<Question>
 }
 
 /// Up to where the grants of a log are asked for.
-#[derive(Clone, Copy, Debug, PartialEq, Eq)]
+#[derive(Clone, Copy)]
 pub enum Limit {
     /// The end of the log.
     End,

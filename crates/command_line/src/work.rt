@@ -21,7 +21,7 @@ use std::sync::Wait;
 use std::thread::Threads;
 
 /// Why the work on a log failed.
-#[derive(Clone, Copy, Debug, PartialEq, Eq)]
+#[derive(Clone, Copy)]
 pub enum WorkFault {
     /// A growth was refused.
     NoMemory,
@@ -36,7 +36,7 @@ pub enum WorkFault {
 }
 
 /// What is to be done with a log.
-#[derive(Clone, Copy, Debug, PartialEq, Eq)]
+#[derive(Clone, Copy)]
 pub enum Task {
     /// Run it in order on one thread, while this many further threads read lines before their turn.
     InOrder(u64),

@@ -1,7 +1,7 @@
 //! By whom a batch is run.
 
 /// By how many workers a batch is run, and by how many placers it is placed.
-#[derive(Clone, Copy, PartialEq, Eq, Debug)]
+#[derive(Clone, Copy)]
 pub struct Crew {
     /// How many workers run its places: 1 to `MOST_WORKERS`. The caller's thread is the first, each other has a thread of its own.
     pub workers: usize,

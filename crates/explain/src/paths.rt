@@ -17,7 +17,7 @@ use model_base::{Grant, Grantee, Items, Need, Place, RecordName, User};
 use std::alloc::{AllocError, Global};
 
 /// A grant that gives what is needed, and its slot.
-#[derive(Clone, Copy, PartialEq, Eq, Debug)]
+#[derive(Clone, Copy)]
 pub(crate) struct Giving {
     pub slot: usize,
     pub grant: Grant,

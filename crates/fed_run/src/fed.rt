@@ -15,7 +15,7 @@ use model_base::Place;
 use std::alloc::Global;
 
 /// How far a call came.
-#[derive(Clone, Copy, Debug, PartialEq, Eq)]
+#[derive(Clone, Copy, Debug)]
 pub struct Step {
     /// How many bytes of the log it took.
     pub used: usize,

@@ -14,7 +14,7 @@ use crate::walk::{Step, Walk};
 use words::{Claimed, Holding, Pass, Seen};
 
 /// The outcome of a place that was asked for.
-#[derive(Clone, Copy, PartialEq, Eq, Debug)]
+#[derive(Clone, Copy, Debug)]
 pub enum Tried {
     /// The place is done.
     Done,

@@ -19,7 +19,7 @@ use std::alloc::{AllocError, Global};
 use std::collections::BTreeMap;
 
 /// A user who has the option of a kind, or had it.
-#[derive(Clone, Copy, PartialEq, Eq, Debug)]
+#[derive(Clone, Copy)]
 struct KindHolder {
     user: User,
     kind: Kind,
@@ -211,7 +211,7 @@ fn keeps<V: Records>(
 }
 
 /// A grant that is to be judged, with its slot.
-#[derive(Clone, Copy, PartialEq, Eq, Debug)]
+#[derive(Clone, Copy)]
 struct DueGrant {
     slot: usize,
     grant: Grant,

@@ -11,7 +11,7 @@ use model_base::Place;
 use std::alloc::{AllocError, Global};
 
 /// That the record of a slot ended at a place.
-#[derive(Clone, Copy, PartialEq, Eq, Debug)]
+#[derive(Clone, Copy)]
 pub(crate) struct Ending {
     pub place: Place,
     pub slot: usize,

@@ -18,7 +18,7 @@ pub struct Creation {
 }
 
 /// That the record of a slot ends at a place.
-#[derive(Clone, Copy, PartialEq, Eq, Debug)]
+#[derive(Clone, Copy)]
 pub struct End {
     pub slot: usize,
     pub place: Place,

@@ -23,14 +23,14 @@ pub fn later(place: Option<Place>, other: Option<Place>) -> Option<Place>
 }
 
 /// The next slot of a grant in force, if there is one, and the last place at which a grant of its side left force.
-#[derive(Clone, Copy, PartialEq, Eq, Debug)]
+#[derive(Clone, Copy)]
 pub struct NextInForce {
     pub slot: Option<usize>,
     pub lost: Option<Place>,
 }
 
 /// The next slot of a grant in force, if there is one.
-#[derive(Clone, Copy, PartialEq, Eq, Debug)]
+#[derive(Clone, Copy)]
 pub struct NextBy {
     pub slot: Option<usize>,
 }

@@ -5,7 +5,7 @@ ghost use Rattle.log_text.specs.Versions.{heading_line};
 
 /// A version of the grammar of a line. From the second on a deed may name several kinds and several grantees, each list one word with
 /// commas. All else is the same.
-#[derive(Clone, Copy, PartialEq, Eq, Debug)]
+#[derive(Clone, Copy)]
 pub enum Version {
     One,
     Two,

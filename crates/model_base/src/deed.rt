@@ -42,7 +42,7 @@ impl Kind {
 }
 
 /// Some of the four kinds.
-#[derive(Clone, Copy, PartialEq, Eq, Debug)]
+#[derive(Clone, Copy, Debug)]
 pub struct Kinds {
     pub read: bool,
     pub insert: bool,
@@ -300,7 +300,7 @@ impl Grant {
 }
 
 /// The revocation of its grantor's earlier grants of some kinds on one table to some users, or to all.
-#[derive(Clone, Copy, PartialEq, Eq, Debug)]
+#[derive(Clone, Copy)]
 pub struct Revocation {
     pub place: Place,
     pub grantor: User,
@@ -332,7 +332,7 @@ impl Revocation {
 }
 
 /// What changes who holds which privilege.
-#[derive(Clone, Copy, PartialEq, Eq, Debug)]
+#[derive(Clone, Copy)]
 pub enum Deed {
     Granting(Grant),
     Revoking(Revocation),

@@ -7,7 +7,7 @@ use std::fmt;
 use std::marker::Model;
 
 /// From one to `MOST_GRANTEES` grantees, each once, in order, kept in the value itself, so that a copy doesn't allocate.
-#[derive(Clone, Copy, PartialEq, Eq)]
+#[derive(Clone, Copy)]
 pub struct Grantees {
     len: u8,
     /// The index of PUBLIC, or `len` if it isn't one of these.

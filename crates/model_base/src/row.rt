@@ -18,7 +18,7 @@ pub type Row = Values;
 pub type Outputs = Values;
 
 /// Up to `MOST_VALUES` numbers, kept in the value itself, so that a copy doesn't allocate.
-#[derive(Clone, Copy, PartialEq, Eq, Debug)]
+#[derive(Clone, Copy, Debug)]
 pub struct Values {
     len: u8,
     values: [i64; MOST_VALUES],

@@ -10,7 +10,7 @@ use crate::row::Key;
 use std::marker::Model;
 
 /// One of the `MOST_REGISTERS` registers of a body.
-#[derive(Clone, Copy, PartialEq, Eq, Debug)]
+#[derive(Clone, Copy, Debug)]
 pub struct Register(u8);
 
 impl Model for Register {
@@ -47,7 +47,7 @@ impl Register {
 }
 
 /// Up to `MOST_COLUMNS` registers in order, kept in the value itself, so that a step is a plain value and doesn't allocate of its own.
-#[derive(Clone, Copy, PartialEq, Eq, Debug)]
+#[derive(Clone, Copy, Debug)]
 pub struct Registers {
     len: u8,
     registers: [Register; MOST_COLUMNS],
@@ -107,7 +107,7 @@ impl Registers {
 }
 
 /// How a step names its row.
-#[derive(Clone, Copy, PartialEq, Eq, Debug)]
+#[derive(Clone, Copy, Debug)]
 pub enum RowName {
     /// By its number.
     Number(RowNumber),
@@ -116,7 +116,7 @@ pub enum RowName {
 }
 
 /// A row that a statement declares, and what its body may do with it.
-#[derive(Clone, Copy, PartialEq, Eq, Debug)]
+#[derive(Clone, Copy, Debug)]
 pub struct Access {
     pub key: Key,
     pub kinds: Kinds,
@@ -135,7 +135,7 @@ impl Access {
 }
 
 /// What a step computes of two numbers: their sum, difference or product, or 1 or 0 as they compare.
-#[derive(Clone, Copy, PartialEq, Eq, Debug)]
+#[derive(Clone, Copy, Debug)]
 pub enum Operation {
     Add,
     Sub,
@@ -197,7 +197,7 @@ pub enum Step {
 
 /// Grants or a revocation as a statement names them; their grantor is the statement's user. A grant of several kinds to several grantees
 /// makes one of each kind to each of them.
-#[derive(Clone, Copy, PartialEq, Eq, Debug)]
+#[derive(Clone, Copy, Debug)]
 pub enum DeedForm {
     Grant {
         kinds: Kinds,

@@ -11,7 +11,7 @@ use std::marker::Model;
 pub const MOST_OWN_WORDS: usize = 4 + MOST_OUTPUTS + MOST_ACCESSES * (1 + MOST_COLUMNS);
 
 /// A place's own words, at most `MOST_OWN_WORDS`, kept in the value itself, so that they don't allocate.
-#[derive(Clone, Copy, PartialEq, Eq, Debug)]
+#[derive(Clone, Copy)]
 pub struct OwnWords {
     len: u8,
     words: [u64; MOST_OWN_WORDS],

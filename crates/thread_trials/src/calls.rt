@@ -13,7 +13,7 @@ use trials_base::{Attempt, TrialFault, number_of};
 use words::{BatchData, Claimed, Holding, Pass, Seen, passes_keep_what_they_know};
 
 /// What a step asks for.
-#[derive(Clone, Copy, PartialEq, Eq)]
+#[derive(Clone, Copy)]
 pub enum Verb {
     /// To run the place of an index.
     Ask,

@@ -18,7 +18,7 @@ pub const HELD: u64 = 1;
 pub const DONE: u64 = 2;
 
 /// What a claim found.
-#[derive(Clone, Copy, PartialEq, Eq, Debug)]
+#[derive(Clone, Copy, Debug)]
 pub enum Claimed {
     /// The place was free, and the pass holds it now.
     Won,
@@ -29,7 +29,7 @@ pub enum Claimed {
 }
 
 /// What a look found.
-#[derive(Clone, Copy, PartialEq, Eq, Debug)]
+#[derive(Clone, Copy, Debug)]
 pub enum Seen {
     /// Nobody held the place, and it wasn't done.
     Free,

@@ -15,7 +15,7 @@ pub trait Gate {
 }
 
 /// Nobody.
-#[derive(Clone, Copy, PartialEq, Eq, Debug)]
+#[derive(Clone, Copy)]
 pub struct NoGate;
 
 impl Gate for NoGate {

@@ -20,7 +20,7 @@ use std::thread::{Promise, PromisedHandle, Scope, Threads};
 use words::Pass;
 
 /// The outcome of running a batch.
-#[derive(Clone, Copy, PartialEq, Eq, Debug)]
+#[derive(Clone, Copy, Debug)]
 pub enum Worked {
     /// All its places are done.
     Done,
