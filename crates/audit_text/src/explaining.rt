@@ -18,8 +18,6 @@ use line_io::Counted;
 use model_base::HashSeed;
 use std::alloc::Global;
 use std::io::{Read, Write};
-use std::sync::Wait;
-use std::thread::Threads;
 
 /// Writes the answer to a question about a log that is run, and flushes the writer.
 fn write_answer<W: Write>(
@@ -59,8 +57,7 @@ fn write_answer<W: Write>(
 /// `NoSuchPlace` comes only where the log has no such place, `NoMemory` where a growth was refused, `Read` where the reader failed, `Write`
 /// where the writer failed, or took no byte of a piece that wasn't empty. After `Write` a beginning of the answer is written, and after any
 /// other fault nothing was written.
-pub fn explain_text<T: Threads + Wait + Sync, R: Read, W: Write>(
-    rt: &T,
+pub fn explain_text<R: Read, W: Write>(
     alloc: Global,
     reader: &mut Counted<R>,
     writer: &mut Counted<W>,
@@ -77,6 +74,6 @@ pub fn explain_text<T: Threads + Wait + Sync, R: Read, W: Write>(
     // Read and Write come only where the reader or the writer failed. Ok says that neither did, and that the writer was flushed at the end.
     ensures failures { CountsFailures AuditFault.Read AuditFault.Write reader.old reader.new writer.old writer.new result }
 {
-    let engine = run_quietly_to(rt, alloc, reader, Some(question.place), seed)?;
+    let engine = run_quietly_to(alloc, reader, Some(question.place), seed)?;
     write_answer(alloc, writer, &engine, question)
 }

@@ -17,8 +17,6 @@ use line_io::Counted;
 use model_base::{HashSeed, Place};
 use std::alloc::Global;
 use std::io::{Read, Write};
-use std::sync::Wait;
-use std::thread::Threads;
 
 /// Writes the picture of the grants before a place of a log that is run, or at its end, into an empty text.
 fn put_picture(text: &mut Vec<u8>, engine: &Engine, limit: Option<Place>) -> Result<(), AuditFault>
@@ -70,8 +68,7 @@ fn write_picture<W: Write>(
 /// `NoSuchPlace` comes only where the log ends before the place, `NoMemory` where a growth was refused, `Read` where the reader failed,
 /// `Write` where the writer failed, or took no byte of a piece that wasn't empty. After `Write` a beginning of the picture is written, and
 /// after any other fault nothing was written.
-pub fn grants_text<T: Threads + Wait + Sync, R: Read, W: Write>(
-    rt: &T,
+pub fn grants_text<R: Read, W: Write>(
     alloc: Global,
     reader: &mut Counted<R>,
     writer: &mut Counted<W>,
@@ -88,6 +85,6 @@ pub fn grants_text<T: Threads + Wait + Sync, R: Read, W: Write>(
     // Read and Write come only where the reader or the writer failed. Ok says that neither did, and that the writer was flushed at the end.
     ensures failures { CountsFailures AuditFault.Read AuditFault.Write reader.old reader.new writer.old writer.new result }
 {
-    let engine = run_quietly_to(rt, alloc, reader, limit, seed)?;
+    let engine = run_quietly_to(alloc, reader, limit, seed)?;
     write_picture(alloc, writer, &engine, limit)
 }

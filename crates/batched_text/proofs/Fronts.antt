@@ -1,5 +1,5 @@
 -- The log of the first lines of a text, up to a place.
-use Rattle.std.proofs.Common.{◌≡◌, ◌<◌, ◌≤◌, ◌⊎◌, ℕ, List, [], ◌∷◌, ◌++◌, length, None, Option, Some, refl, ap, sym, subst, arith, inl, inr}
+use Rattle.std.proofs.Common.{◌≡◌, ◌<◌, ◌≤◌, ◌+◌, ◌⊎◌, ℕ, List, [], ◌∷◌, ◌++◌, length, None, Option, Some, refl, ap, sym, subst, arith, inl, inr}
 use Rattle.std.specs.Prelude.{◌==◌, ◌&&◌, Bool, IfSome, MatchBool, false, nat_le, true, unwrap_or}
 use Rattle.std.proofs.lemmas.Bool.{leb-false, ne_eqb}
 use Rattle.std.proofs.lemmas.List.{length-append}
@@ -11,13 +11,29 @@ use Rattle.line_io.specs.Known.{HadSome, TookLine}
 use Rattle.line_io.specs.Lines.{first_line, lines_of}
 use Rattle.sequencer.specs.Catalog.{Names, no_names}
 use Rattle.sequencer.specs.Log.{Accepted, empty_log}
-use Rattle.report.specs.Report.{AreParsedFrom, IsParsedLine, ParsedLine, log_of, names_after}
+use Rattle.log_text.specs.Statement.{Sentence}
+use Rattle.sequencer.specs.Refusal.{refusal}
+use Rattle.sequencer.specs.declared.refused.Refused.{Refused}
+use Rattle.report.specs.Report.{AreParsedFrom, IsParsedLine, ParsedLine, accepted, faulty, log_of, names_after, read, statement_if, the_heading}
 use Rattle.report.proofs.Readings.{readings_from}
 use Rattle.bohm_base.specs.Collecting.{ReadsAs, line_outcome, with_reading}
 use Rattle.bohm_base.specs.declared.collecting.LineOutcome.{LineOutcome}
 use Rattle.bohm_base.proofs.Logs.{log_step}
 use Rattle.batched_text.proofs.Ends.{IsReadAfter, leads_more}
 use Rattle.batched_text.specs.Reaching.{AreFewest, EndsTaking, HasTaken, IsFrontTaken, IsLogOfFront, IsLogUpTo}
+
+-- a line adds one statement at most
+at-most-one : (names : Names) (sentence : Sentence) (o : Option Refused) → length (statement_if names sentence o) ≤ 1
+at-most-one names sentence None = omega arith
+at-most-one names sentence (Some refused) = omega arith
+
+few-accepted : (names : Names) (reading : ParsedLine) → length (accepted names reading) ≤ 1
+few-accepted names the_heading = omega arith
+few-accepted names (read sentence) = at-most-one names sentence (refusal names sentence)
+few-accepted names (faulty fault) = omega arith
+
+pub one_more : (log : Accepted) (reading : ParsedLine) → length (with_reading log reading).statements ≤ length log.statements + 1
+one_more log reading = omega (arith, few-accepted log.names reading, length-append log.statements (accepted log.names reading))
 
 -- the last of some items, and those before it
 snoc-front : {X : Type 0} (xs ys : List X) (x y : X) → xs ++ x ∷ [] ≡ ys ++ y ∷ [] → xs ≡ ys

@@ -8,7 +8,6 @@ pub mod Ended
 pub mod ReadSofar
 pub mod Faults
 pub mod Cutting
-pub mod TakenLines
 pub mod Fronts
 pub mod ForetoldLines
 pub mod RunLines

@@ -27,7 +27,7 @@ mod stretches;
 pub use laws::reports_stand;
 pub use lines::take_text;
 pub use lookahead::ReadingAhead;
-pub use quiet::run_quietly;
+pub use quiet::QUIET_BATCH;
 pub use reaching::run_quietly_to;
 pub use reporting::{named_grantees, put_lines, put_place};
 pub use running::{report_in_order, report_text, run_text};

@@ -1,6 +1,6 @@
 //! A log that is read and run up to a place, and of which no report is made.
 
-ghost use Rattle.std.specs.Prelude.{◌≡◌, ◌<◌, ◌≤◌, ◌+◌, ℕ, [], Err, IfOk, IfSome, List, MatchBool, Ok, OnOk, Option, false, length, true};
+ghost use Rattle.std.specs.Prelude.{◌≡◌, ◌<◌, ◌≤◌, ◌+◌, ◌⊎◌, ℕ, [], Err, IfOk, IfSome, List, MatchBool, Ok, OnOk, Option, false, length, true};
 ghost use Rattle.std.specs.Io.KnownBytes.{prepend_known};
 ghost use Rattle.line_io.specs.Ahead.{ahead};
 ghost use Rattle.line_io.specs.Known.{raised};
@@ -9,14 +9,12 @@ ghost use Rattle.sequencer.specs.Whole.{IsWhole};
 ghost use Rattle.engine.specs.Engine.{finished};
 ghost use Rattle.batched_text.specs.Reaching.{EndsTaking, HasTaken, IsLogUpTo};
 
-use crate::quiet::{BATCH, run_rest, take_quietly};
+use crate::quiet::{QUIET_BATCH, run_rest, take_quietly};
 use engine::Engine;
 use line_io::{BUFFER_BYTES, Counted, LineReader, MOST_GIVEN_BYTES, ReadFault};
 use model_base::{HashSeed, MOST_PLACES, Place};
 use std::alloc::Global;
 use std::io::Read;
-use std::sync::Wait;
-use std::thread::Threads;
 
 /// Takes the first line of a log. False where the input has none, and then nothing is taken.
 fn take_first<R: Read>(
@@ -32,7 +30,10 @@ fn take_first<R: Read>(
         place engine.new.log)
         (EndsTaking (R.remaining reader.old.inner) place engine.new.log)) }
     ensures none { result ≡ Ok false → engine.new ≡ engine.old }
+    ensures one { OnOk result (length engine.new.log.statements ≤ 1) }
+    ensures unrun { OnOk result (finished engine.new ≡ finished engine.old) }
     ensures kept { OnOk result (engine.new.dropped ≡ engine.old.dropped) }
+    ensures mark { OnOk result (engine.new.store.mark ≡ engine.old.store.mark) }
     ensures bound { 0 < length (ahead lines.new) → reader.new.given ≤ MOST_GIVEN_BYTES + BUFFER_BYTES }
     ensures read { result ≡ Err ReadFault.Read → reader.new.errors ≡ raised reader.old.errors }
     ensures other { (result ≡ Err ReadFault.Read → ⊥) → reader.new.errors ≡ reader.old.errors }
@@ -60,8 +61,11 @@ fn take_until<R: Read>(
         × HasTaken false input (prepend_known (ahead lines.new) (R.remaining reader.new.inner)) end engine.new.log)
         (EndsTaking input end engine.new.log)) }
     ensures more { result ≡ Ok true → place < length engine.new.log.statements }
+    ensures most { OnOk result ((length engine.new.log.statements ≤ length engine.old.log.statements)
+        ⊎ (length engine.new.log.statements ≤ place + 1)) }
     ensures none { OnOk result (finished engine.new ≡ finished engine.old) }
     ensures kept { OnOk result (engine.new.dropped ≡ engine.old.dropped) }
+    ensures mark { OnOk result (engine.new.store.mark ≡ engine.old.store.mark) }
     ensures bound { 0 < length (ahead lines.new) → reader.new.given ≤ MOST_GIVEN_BYTES + BUFFER_BYTES }
     ensures read { result ≡ Err ReadFault.Read → reader.new.errors ≡ raised reader.old.errors }
     ensures other { (result ≡ Err ReadFault.Read → ⊥) → reader.new.errors ≡ reader.old.errors }
@@ -77,37 +81,39 @@ fn take_until<R: Read>(
 
 /// Takes lines after the first until the log has a place, but no more than a batch of them, and runs the places that wait. False once the
 /// log has the place, or has all lines of the input.
-fn run_some<T: Threads + Wait + Sync, R: Read>(
-    rt: &T,
+fn run_some<R: Read>(
     alloc: Global,
     reader: &mut Counted<R>,
     lines: &mut LineReader,
     engine: &mut Engine,
     place: Place,
 ) -> Result<bool, ReadFault>
-    requires { 0 < length (ahead lines.old) → reader.old.given ≤ MOST_GIVEN_BYTES + BUFFER_BYTES }
+    requires bound { 0 < length (ahead lines.old) → reader.old.given ≤ MOST_GIVEN_BYTES + BUFFER_BYTES }
+    requires mark { engine.old.store.mark ≡ finished engine.old }
+    requires one { length engine.old.log.statements ≤ finished engine.old + 1 }
     ensures taken { IfOk result (λ more. (input : Option (List ℕ))
         → HasTaken false input (prepend_known (ahead lines.old) (R.remaining reader.old.inner)) place engine.old.log
         → MatchBool more
         (HasTaken false input (prepend_known (ahead lines.new) (R.remaining reader.new.inner)) place engine.new.log)
         (EndsTaking input place engine.new.log)) }
     ensures more { result ≡ Ok true → (finished engine.old < finished engine.new) × (finished engine.new ≤ place) }
+    ensures mark { OnOk result (engine.new.store.mark ≡ finished engine.new) }
+    ensures few { OnOk result (finished engine.new ≤ finished engine.old + QUIET_BATCH) }
     ensures all { OnOk result (finished engine.new ≡ length engine.new.log.statements) }
     ensures kept { OnOk result (engine.new.dropped ≡ engine.old.dropped) }
     ensures bound { 0 < length (ahead lines.new) → reader.new.given ≤ MOST_GIVEN_BYTES + BUFFER_BYTES }
     ensures read { result ≡ Err ReadFault.Read → reader.new.errors ≡ raised reader.old.errors }
     ensures other { (result ≡ Err ReadFault.Read → ⊥) → reader.new.errors ≡ reader.old.errors }
 {
-    let last = place.min(engine.finished().saturating_add(BATCH - 1));
+    let last = place.min(engine.finished().saturating_add(QUIET_BATCH - 1));
     let more = take_until(alloc, reader, lines, engine, last)?;
-    run_rest(rt, alloc, engine)?;
+    run_rest(alloc, engine)?;
     let goes_on = engine.finished() <= place;
     Ok(more & goes_on)
 }
 
 /// Takes lines until the log has a place, and runs them batch by batch. Each batch but the last one is forgotten.
-fn run_until<T: Threads + Wait + Sync, R: Read>(
-    rt: &T,
+fn run_until<R: Read>(
     alloc: Global,
     reader: &mut Counted<R>,
     engine: &mut Engine,
@@ -116,9 +122,12 @@ fn run_until<T: Threads + Wait + Sync, R: Read>(
     requires first { engine.old.log ≡ empty_log }
     requires none { engine.old.dropped ≡ 0 }
     requires unrun { finished engine.old ≡ 0 }
+    requires mark { engine.old.store.mark ≡ 0 }
     ensures taken { OnOk result (EndsTaking (R.remaining reader.old.inner) place engine.new.log) }
     ensures all { OnOk result (finished engine.new ≡ length engine.new.log.statements) }
     ensures kept { OnOk result (engine.new.dropped ≤ place) }
+    ensures mark { OnOk result (engine.new.store.mark ≡ finished engine.new) }
+    ensures few { OnOk result (finished engine.new ≤ engine.new.dropped + QUIET_BATCH) }
     ensures read { result ≡ Err ReadFault.Read → reader.new.errors ≡ raised reader.old.errors }
     ensures other { (result ≡ Err ReadFault.Read → ⊥) → reader.new.errors ≡ reader.old.errors }
 {
@@ -126,23 +135,22 @@ fn run_until<T: Threads + Wait + Sync, R: Read>(
     if !take_first(alloc, reader, &mut lines, engine)? {
         return Ok(());
     }
-    'batches: while run_some(rt, alloc, reader, &mut lines, engine, place)? {
+    'batches: while run_some(alloc, reader, &mut lines, engine, place)? {
         engine.forget();
     }
     Ok(())
 }
 
-/// Reads a log up to the line of a place, or to its end where it hasn't the place or none is named; runs what it read by one worker, in
+/// Reads a log up to the line of a place, or to its end where it hasn't the place or none is named; runs what it read in order, in
 /// batches of 1,024 places; and makes no report. It returns the engine with the log up to there, all of it finished. Of its
-/// statements and outcomes those of the last batch are kept, the named place's among them, and no rows before its end. Maps find their keys
-/// under `seed`.
+/// statements and outcomes those of the last batch are kept, the named place's among them, and no rows before its end. It starts no thread
+/// and waits for none. Maps find their keys under `seed`.
 ///
 /// No line after that of the place is taken, and the reader isn't asked for more once that line is available: a line after it that can't be
 /// read, and a reader that fails later, are never met.
 ///
 /// `Read` comes exactly where the reader failed, `NoMemory` where a growth was refused.
-pub fn run_quietly_to<T: Threads + Wait + Sync, R: Read>(
-    rt: &T,
+pub fn run_quietly_to<R: Read>(
     alloc: Global,
     reader: &mut Counted<R>,
     limit: Option<Place>,
@@ -154,13 +162,16 @@ pub fn run_quietly_to<T: Threads + Wait + Sync, R: Read>(
     ensures whole { IfOk result (λ engine. IsWhole engine.log) }
     // The place's statement and outcome aren't dropped.
     ensures kept { IfOk result (λ engine. IfSome limit (λ place. engine.dropped ≤ place)) }
+    // No rows before its end are kept, nor statements and outcomes of more than a batch.
+    ensures trimmed { IfOk result (λ engine. engine.store.mark ≡ finished engine) }
+    ensures few { IfOk result (λ engine. finished engine ≤ engine.dropped + QUIET_BATCH) }
     // Read says that the reader failed, and nothing else does.
     ensures read { result ≡ Err ReadFault.Read → reader.new.errors ≡ raised reader.old.errors }
     ensures other { (result ≡ Err ReadFault.Read → ⊥) → reader.new.errors ≡ reader.old.errors }
 {
     let mut engine = Engine::seeded(alloc, seed);
     let place = limit.unwrap_or(MOST_PLACES);
-    run_until(rt, alloc, reader, &mut engine, place)?;
+    run_until(alloc, reader, &mut engine, place)?;
     let _len = engine.log().len();
     let _dropped = engine.log().dropped();
     Ok(engine)

@@ -3,10 +3,11 @@ use Rattle.engine.specs.Engine.{finished}
 use Rattle.batched_text.proofs.quiet.run_rest.Given as goal
 
 abbrev pub invariant-batches : goal.invariant-batches
-invariant-batches g l = record {
+invariant-batches l = record {
+  mark : l.engine.store.mark ≡ finished l.engine;
   log : l.engine.log ≡ l.initial.engine.log;
   dropped : l.engine.dropped ≡ l.initial.engine.dropped;
 }
 
 abbrev pub decreases-batches : goal.decreases-batches
-decreases-batches g l = length l.engine.log.statements - finished l.engine
+decreases-batches l = length l.engine.log.statements - finished l.engine

@@ -1,4 +1,4 @@
-use Rattle.std.proofs.Common.{arith, refl}
+use Rattle.std.proofs.Common.{◌∙◌, arith, refl, sym}
 use Rattle.batched_text.proofs.reaching.run_until.Goals as goal
 
 pub returns-then-not-branch-clause-taken : goal.returns-then-not-branch-clause-taken
@@ -8,6 +8,9 @@ pub batches-init : goal.batches-init
 batches-init g c = record {
   taken = λ input so. so;
   kept = omega (arith, c.in_ok-take_first.ensures.kept, c.requires.none);
+  one = omega (arith, c.in_ok-take_first.ensures.one);
+  dropped = c.in_ok-take_first.ensures.kept ∙ c.requires.none ∙ sym (c.in_ok-take_first.ensures.unrun ∙ c.requires.unrun);
+  mark = c.in_ok-take_first.ensures.mark ∙ c.requires.mark ∙ sym (c.in_ok-take_first.ensures.unrun ∙ c.requires.unrun);
   bounded = c.take_first.ensures.bound;
   read_errors = refl;
 }

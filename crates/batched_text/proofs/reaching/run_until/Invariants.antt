@@ -12,6 +12,9 @@ invariant-batches g l = record {
       → HasTaken false input (prepend_known (ahead l.initial.lines) (g.R.Read.remaining l.initial.reader.inner)) l.place l.initial.engine.log
       → HasTaken false input (prepend_known (ahead l.lines) (g.R.Read.remaining l.reader.inner)) l.place l.engine.log;
   kept : l.engine.dropped ≤ l.place;
+  one : length l.engine.log.statements ≤ finished l.engine + 1;
+  dropped : l.engine.dropped ≡ finished l.engine;
+  mark : l.engine.store.mark ≡ finished l.engine;
   bounded : 0 < length (ahead l.lines) → l.reader.given ≤ MOST_GIVEN_BYTES + BUFFER_BYTES;
   read_errors : l.reader.errors ≡ l.initial.reader.errors;
 }

@@ -1,4 +1,4 @@
-use Rattle.std.proofs.Common.{◌≡◌, false, ℕ, ◌<◌, ◌≤◌, ◌+◌, ◌-◌, List, Option, length}
+use Rattle.std.proofs.Common.{◌≡◌, false, ℕ, ◌<◌, ◌≤◌, ◌+◌, ◌-◌, ◌⊎◌, List, Option, length}
 use Rattle.std.specs.Io.KnownBytes.{prepend_known}
 use Rattle.line_io.specs.Ahead.{ahead}
 use Rattle.engine.specs.Engine.{finished}
@@ -13,6 +13,8 @@ invariant-lines g l = record {
       → HasTaken false input (prepend_known (ahead l.lines) (g.R.Read.remaining l.reader.inner)) end l.engine.log;
   none : finished l.engine ≡ finished l.initial.engine;
   kept : l.engine.dropped ≡ l.initial.engine.dropped;
+  most : (length l.engine.log.statements ≤ length l.initial.engine.log.statements) ⊎ (length l.engine.log.statements ≤ l.place + 1);
+  mark : l.engine.store.mark ≡ l.initial.engine.store.mark;
   bounded : 0 < length (ahead l.lines) → l.reader.given ≤ MOST_GIVEN_BYTES + BUFFER_BYTES;
   read_errors : l.reader.errors ≡ l.initial.reader.errors;
 }
