@@ -53,6 +53,8 @@ line_taken old run reading line waiting reached is now all =
         counted = counted_taken old.run.log reading old.reported old.waiting reached.counted;
         finished = reached.finished;
         dropped = reached.dropped;
+        few_rows = reached.few_rows;
+        few_places = reached.few_places;
       },
       record { log = refl; waiting = refl; reported = refl },
     ))

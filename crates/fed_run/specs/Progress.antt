@@ -1,5 +1,5 @@
 -- How far a log is that is run in order.
-use Rattle.std.specs.Prelude.{◌≡◌, ◌≤◌, ◌+◌, ◌-◌, ◌++◌, ◌∷◌, [], ℕ, Bool, List, Some, length}
+use Rattle.std.specs.Prelude.{◌≡◌, ◌<◌, ◌≤◌, ◌+◌, ◌-◌, ◌++◌, ◌∷◌, [], ℕ, Bool, List, Some, length, max}
 use Rattle.sequencer.specs.Log.{Accepted}
 use Rattle.explain.specs.declared.line.Line.{Line}
 use Rattle.explain.specs.Explained.{explained}
@@ -9,6 +9,7 @@ use Rattle.bohm_base.specs.Collecting.{ReadsAs, line_outcome, with_reading}
 use Rattle.bohm_base.specs.declared.collecting.LineOutcome.{LineOutcome}
 use Rattle.batched_text.specs.Places.{places_in}
 use Rattle.engine.specs.Engine.{Run, finished}
+use Rattle.fed_run.specs.declared.in_order.TheConstants.{SWEPT_PLACES}
 
 -- the engine, what the lines became that wait to be reported, how many places were reported, and of how many of the last of them statements
 -- and outcomes are to be kept
@@ -19,11 +20,14 @@ pub record Progress : Type 0 where
   pub keep : ℕ
 
 -- each place was reported or is of a line that waits, what was reported is finished, and only of reported places that needn't be kept
--- statement and outcome were dropped
+-- statement and outcome were dropped; and little more is kept: rows before fewer than `SWEPT_PLACES` of the reported places, and of fewer
+-- places beyond those that are to be kept than as many again, or `SWEPT_PLACES` if that is more
 pub record HasReached (now : Progress) : Type 0 where
   pub counted : now.reported + places_in now.waiting ≡ length now.run.log.statements
   pub finished : now.reported ≤ finished now.run
   pub dropped : now.run.dropped ≤ now.reported - now.keep
+  pub few_rows : now.reported < now.run.store.mark + SWEPT_PLACES
+  pub few_places : now.reported < now.run.dropped + now.keep + max now.keep SWEPT_PLACES
 
 -- a line that was read so was taken, and waits
 pub record TakesLine (reading : ParsedLine) (old new : Progress) : Type 0 where

@@ -3,7 +3,8 @@
 //! After J. M. Faleiro and D. J. Abadi, "Rethinking Serializable Multiversion Concurrency Control", PVLDB 8 (2015), section 3: in the
 //! order of the log the versions that a transaction reads are the newest.
 
-ghost use Rattle.std.specs.Prelude.{◌≡◌, ◌≤◌, ◌<◌, ◌+◌, ◌-◌, ◌^◌, ◌∷◌, ◌++◌, ◌↔◌, [], Err, IfOk, List, false, true, OnErr, OnOk, length};
+ghost use Rattle.std.specs.Prelude.{◌≡◌, ◌≤◌, ◌<◌, ◌+◌, ◌-◌, ◌^◌, ◌∷◌, ◌++◌, ◌↔◌, [], Err, IfOk, List, false, true, OnErr, OnOk, length, max};
+ghost use Rattle.engine.specs.Engine.{finished};
 ghost use Rattle.batched_text.specs.Batching.{lines_text};
 ghost use Rattle.batched_text.specs.Places.{places_in};
 ghost use Rattle.sequencer.specs.Log.{empty_log};
@@ -51,6 +52,37 @@ impl Model for InOrder {
       reported = order.reported;
       keep = order.keep;
     }) };
+}
+
+/// Drops the versions of rows that no later place can read, where there are enough places since the last ones that were dropped.
+fn trim(engine: &mut Engine)
+    ensures few { finished engine.new < engine.new.store.mark + SWEPT_PLACES }
+    ensures rest { engine.new ≡ record engine.old { store = engine.new.store } }
+{
+    let end = engine.finished();
+    if end - engine.mark() >= SWEPT_PLACES {
+        let _trimmed = engine.trim(end);
+        engine.sweep();
+    }
+}
+
+/// Drops the statements and outcomes of finished places but the last that are to be kept, where there are enough to drop.
+fn forget(engine: &mut Engine, keep: u64)
+    requires { engine.old.dropped ≤ finished engine.old - keep }
+    ensures kept { engine.new.dropped ≤ finished engine.new - keep }
+    ensures few { finished engine.new < engine.new.dropped + keep + max keep SWEPT_PLACES }
+    ensures rest { engine.new ≡ record engine.old { dropped = engine.new.dropped } }
+{
+    let end = engine.finished();
+    let kept = end - engine.log().dropped();
+    if kept < keep || kept - keep < keep.max(SWEPT_PLACES) {
+        return;
+    }
+    if keep == 0 {
+        engine.forget();
+    } else {
+        engine.forget_to(end - keep);
+    }
 }
 
 impl InOrder {
@@ -177,38 +209,10 @@ impl InOrder {
             &self.waiting,
         )?;
         self.waiting.clear();
+        trim(&mut self.engine);
+        forget(&mut self.engine, self.keep);
         self.reported = end;
-        self.trim();
-        self.forget();
         Ok(())
-    }
-
-    /// Drops the versions of rows that no later place can read, where there are enough places since the last ones that were dropped.
-    fn trim(&mut self)
-        ensures { self.new ≡ record self.old { run = record self.old.run { store = self.new.run.store } } }
-    {
-        let end = self.engine.finished();
-        if end - self.engine.mark() >= SWEPT_PLACES {
-            let _trimmed = self.engine.trim(end);
-            self.engine.sweep();
-        }
-    }
-
-    /// Drops the statements and outcomes of reported places but the last that are to be kept, where there are enough to drop.
-    fn forget(&mut self)
-        requires { self.old.waiting ≡ [] }
-        ensures { self.new ≡ record self.old { run = record self.old.run { dropped = self.new.run.dropped } } }
-    {
-        let end = self.engine.finished();
-        let kept = end - self.engine.log().dropped();
-        if kept < self.keep || kept - self.keep < self.keep.max(SWEPT_PLACES) {
-            return;
-        }
-        if self.keep == 0 {
-            self.engine.forget();
-        } else {
-            self.engine.forget_to(end - self.keep);
-        }
     }
 
     /// Appends why the statement of a reported place was admitted or denied: the report's line for the place, and a line for each need.

@@ -10,4 +10,6 @@ invariant_of-result c =
       counted = omega (arith, nobody, ap (λ (log : Accepted). length log.statements) c.new-engine.ensures.log);
       finished = omega arith;
       dropped = omega (arith, c.new-engine.ensures.kept);
+      few_rows = omega (arith, c.new-engine.ensures.mark);
+      few_places = omega (arith, c.new-engine.ensures.kept);
     }
