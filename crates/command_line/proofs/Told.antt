@@ -1,17 +1,30 @@
 -- What a task writes of its log answers the command that asks for the task.
-use Rattle.std.proofs.Common.{ℕ, List, None, Option, Some, inl, inr, subst}
-use Rattle.std.specs.Prelude.{IfSome}
+use Rattle.std.proofs.Common.{◌≡◌, ℕ, Bool, List, None, Option, Some, false, inl, inr, subst, true}
+use Rattle.std.specs.Prelude.{IfSome, MatchBool}
 use Rattle.audit_text.specs.Texts.{BeginsText, WritesText}
-use Rattle.command_line.specs.Running.{AnswersCommand, IsTaskOf, LacksPlace}
+use Rattle.batched_text.specs.declared.settings.Settings.{Settings}
+use Rattle.command_line.specs.Running.{AnswersCommand, IsInOrder, IsTaskOf, LacksPlace}
 use Rattle.command_line.specs.Tasks.{AnswersTask, TaskLacksPlace}
+use Rattle.command_line.specs.Ways.{is_alone}
 use Rattle.command_line.specs.declared.command_words.Command.{Command}
-use Rattle.command_line.specs.declared.options.Way.{Way}
+use Rattle.command_line.specs.declared.options.Choice.{Choice}
 use Rattle.command_line.specs.declared.work.Task.{Task}
+
+-- what holds of a run in order and of one in batches holds of the task of a run
+of_run : (P : Task → Type 0) (settings : Settings) (ahead : Choice) (task : Task)
+    → MatchBool (is_alone settings) (IsInOrder ahead task) (task ≡ Task.InBatches settings)
+    → ((threads : ℕ) → task ≡ Task.InOrder threads → P task) → (task ≡ Task.InBatches settings → P task) → P task
+of_run P settings ahead task is in_order in_batches = go (is_alone settings) is
+  where
+    go : (b : Bool) → MatchBool b (IsInOrder ahead task) (task ≡ Task.InBatches settings) → P task
+    go true so = in_order so.0 so.1.1.1
+    go false so = in_batches so
 
 answers_as : (command : Command) (task : Task) → IsTaskOf command task → (input text : List ℕ) → AnswersTask task input text
     → AnswersCommand command input text
-answers_as (Command.Run source (Way.InOrder ahead)) task is input text says = subst (λ (t : Task). AnswersTask t input text) is.1.1.1 says
-answers_as (Command.Run source (Way.InBatches settings)) task is input text says = subst (λ (t : Task). AnswersTask t input text) is says
+answers_as (Command.Run source settings ahead) task is input text says =
+    of_run (λ _. AnswersCommand (Command.Run source settings ahead) input text) settings ahead task is
+    (λ threads same. subst (λ (t : Task). AnswersTask t input text) same says) (λ same. subst (λ (t : Task). AnswersTask t input text) same says)
 answers_as (Command.Serial source) task is input text says = subst (λ (t : Task). AnswersTask t input text) is says
 answers_as (Command.Explain source question) task is input text says = subst (λ (t : Task). AnswersTask t input text) is says
 answers_as (Command.Grants source limit) task is input text says = subst (λ (t : Task). AnswersTask t input text) is says
@@ -30,8 +43,9 @@ begins_as command task (Some input) old new is begun = elim begun [
 ]
 
 lacks_in : (command : Command) (task : Task) → IsTaskOf command task → (input : List ℕ) → TaskLacksPlace task input → LacksPlace command input
-lacks_in (Command.Run source (Way.InOrder ahead)) task is input lacks = subst (λ (t : Task). TaskLacksPlace t input) is.1.1.1 lacks
-lacks_in (Command.Run source (Way.InBatches settings)) task is input lacks = subst (λ (t : Task). TaskLacksPlace t input) is lacks
+lacks_in (Command.Run source settings ahead) task is input lacks =
+    of_run (λ _. LacksPlace (Command.Run source settings ahead) input) settings ahead task is
+    (λ threads same. subst (λ (t : Task). TaskLacksPlace t input) same lacks) (λ same. subst (λ (t : Task). TaskLacksPlace t input) same lacks)
 lacks_in (Command.Serial source) task is input lacks = subst (λ (t : Task). TaskLacksPlace t input) is lacks
 lacks_in (Command.Explain source question) task is input lacks = subst (λ (t : Task). TaskLacksPlace t input) is lacks
 lacks_in (Command.Grants source limit) task is input lacks = subst (λ (t : Task). TaskLacksPlace t input) is lacks

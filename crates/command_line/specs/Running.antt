@@ -1,34 +1,35 @@
 -- How the work on a log ends.
-use Rattle.std.specs.Prelude.{◌≡◌, ◌≤◌, ◌⊎◌, ℕ, Err, IsSome, List, Ok, Option, Result}
+use Rattle.std.specs.Prelude.{◌≡◌, ◌≤◌, ◌⊎◌, ℕ, Err, IsSome, List, MatchBool, Ok, Option, Result}
 use Rattle.report.specs.Report.{IsReport}
 use Rattle.audit_text.specs.Answer.{HasNoPlace, IsExplanation}
 use Rattle.audit_text.specs.Picture.{EndsBefore, IsPicture}
 use Rattle.command_line.specs.Options.{IfGiven, place_named}
+use Rattle.command_line.specs.Ways.{is_alone}
 use Rattle.command_line.specs.Words.{path_of}
 use Rattle.command_line.specs.declared.command_words.Command.{Command}
 use Rattle.command_line.specs.declared.command_words.ProgramFault.{ProgramFault}
+use Rattle.command_line.specs.declared.options.Choice.{Choice}
 use Rattle.command_line.specs.declared.options.TheConstants.{MOST_AHEAD}
-use Rattle.command_line.specs.declared.options.Way.{Way}
 use Rattle.command_line.specs.declared.work.Task.{Task}
 use Rattle.command_line.specs.declared.work.WorkFault.{WorkFault}
 
 -- the path of the log that a command names, or none where that is standard input
 abbrev pub path_in : Command → Option (List ℕ)
-path_in (Command.Run source way) = path_of source
+path_in (Command.Run source settings ahead) = path_of source
 path_in (Command.Serial source) = path_of source
 path_in (Command.Explain source question) = path_of source
 path_in (Command.Grants source limit) = path_of source
 
 -- the text answers a command about the bytes of its log
 abbrev pub AnswersCommand : Command → List ℕ → List ℕ → Type 0
-AnswersCommand (Command.Run source way) input text = IsReport input text
+AnswersCommand (Command.Run source settings ahead) input text = IsReport input text
 AnswersCommand (Command.Serial source) input text = IsReport input text
 AnswersCommand (Command.Explain source question) input text = IsExplanation input question text
 AnswersCommand (Command.Grants source limit) input text = IsPicture input (place_named limit) text
 
 -- the log has no such place as a command asks about
 abbrev pub LacksPlace : Command → List ℕ → Type 0
-LacksPlace (Command.Run source way) input = ⊥
+LacksPlace (Command.Run source settings ahead) input = ⊥
 LacksPlace (Command.Serial source) input = ⊥
 LacksPlace (Command.Explain source question) input = HasNoPlace input question.place
 LacksPlace (Command.Grants source limit) input = EndsBefore input (place_named limit)
@@ -46,17 +47,31 @@ abbrev pub of_work : EndOf WorkFault → EndOf ProgramFault
 of_work (Ok value) = Ok value
 of_work (Err fault) = Err (ProgramFault.Work fault)
 
--- the task that a command asks for: of a run in order with the number of threads that is given, or else with some number within the limits
-abbrev pub IsTaskOf : Command → Task → Type 0
-IsTaskOf (Command.Run source (Way.InOrder ahead)) task =
+-- a run in order with the number of threads that is given, or else with some number within the limits
+abbrev pub IsInOrder : Choice → Task → Type 0
+IsInOrder ahead task =
     (threads : ℕ) × ((threads ≤ MOST_AHEAD) × (IfGiven ahead (λ given. threads ≡ given) × (task ≡ Task.InOrder threads)))
-IsTaskOf (Command.Run source (Way.InBatches settings)) task = task ≡ Task.InBatches settings
+
+-- the task that a command asks for: one worker and one partition run a log in order, and any other settings in batches
+abbrev pub IsTaskOf : Command → Task → Type 0
+IsTaskOf (Command.Run source settings ahead) task = MatchBool (is_alone settings) (IsInOrder ahead task) (task ≡ Task.InBatches settings)
 IsTaskOf (Command.Serial source) task = task ≡ Task.Slow
 IsTaskOf (Command.Explain source question) task = task ≡ Task.Explain question
 IsTaskOf (Command.Grants source limit) task = task ≡ Task.Picture limit
+
+-- the fault says that a file can't be opened
+abbrev pub IsOpenFault : ProgramFault → Type 0
+IsOpenFault (ProgramFault.Open text) = Unit {0}
+IsOpenFault (ProgramFault.Arguments fault) = ⊥
+IsOpenFault (ProgramFault.Usage usage) = ⊥
+IsOpenFault (ProgramFault.Work fault) = ⊥
+
+-- it says so, or that memory ran out for the text that would
+abbrev pub IsUnopened : ProgramFault → Type 0
+IsUnopened fault = IsOpenFault fault ⊎ (fault ≡ ProgramFault.Work WorkFault.NoMemory)
 
 -- the command was done by the task that it asks for, and ended as that did, or its file couldn't be opened
 abbrev pub DoesCommand : (Task → WorkAnswers) → Command → EndOf ProgramFault → Type 0
 DoesCommand answers command ended =
     ((task : Task) × (IsTaskOf command task × ((answer : EndOf WorkFault) × (answers task answer × (ended ≡ of_work answer)))))
-    ⊎ (IsSome (path_in command) × (ended ≡ Err ProgramFault.Open))
+    ⊎ (IsSome (path_in command) × (fault : ProgramFault) × (IsUnopened fault × (ended ≡ Err fault)))

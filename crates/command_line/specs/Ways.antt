@@ -13,15 +13,13 @@ use Rattle.command_line.specs.declared.options.Way.{Way}
 abbrev pub is_alone : Settings → Bool
 is_alone settings = settings.workers == 1 && settings.partitions == 1
 
--- the way by some settings, with this many threads that read lines ahead: alone in order, and otherwise in batches, of which no lines are
--- read ahead
+-- the way by some settings, with this many threads that read lines ahead: of a run in order, and none of batches
 abbrev pub way_by : Settings → ℕ → Option Way
 way_by settings ahead =
-    if is_alone settings then Some (Way.InOrder (Choice.Given ahead))
-    else (if ahead == 0 then Some (Way.InBatches settings) else None)
+    if is_alone settings || ahead == 0 then Some (record { settings = settings; ahead = Choice.Given ahead }) else None
 
--- the way by the numbers that are given: by settings where workers or partitions are, in which what isn't given of the two is the usual
--- share, and otherwise in order
+-- the way by the numbers that are given: where workers or partitions are, what isn't given of the two is the usual share, and otherwise
+-- there is one of each
 abbrev pub way_told : Choice → Choice → ℕ → ℕ → Choice → Option Way
 way_told workers partitions batch keep ahead =
     if is_given workers || is_given partitions then way_by (record {
@@ -31,7 +29,7 @@ way_told workers partitions batch keep ahead =
       keep = keep;
     })
     (given_or ahead 0)
-    else Some (Way.InOrder ahead)
+    else Some (record { settings = record { workers = 1; partitions = 1; batch = batch; keep = keep }; ahead = ahead })
 
 -- the way that the options give, if each is within its limits
 abbrev pub way_among : List Row → Option Way
@@ -45,6 +43,6 @@ way_among rows =
     (choice_among (codes "workers") 1 MOST_WORKERS rows)
 
 -- the numbers of a way are within their limits
-abbrev pub IsWithin : Way → Type 0
-IsWithin (Way.InOrder ahead) = IfGiven ahead (λ threads. threads ≤ MOST_AHEAD)
-IsWithin (Way.InBatches settings) = are_within_limits settings ≡ true
+pub record IsWithin (way : Way) : Type 0 where
+  pub settings : are_within_limits way.settings ≡ true
+  pub ahead : IfGiven way.ahead (λ threads. threads ≤ MOST_AHEAD)

@@ -4,6 +4,7 @@ use Rattle.std.specs.Option.{option_map_or}
 use Rattle.clap.specs.Words.{IsAmong, Kinds, Row, Text, first_of}
 use Rattle.clap.specs.declared.error.kind.ErrorKind.{ErrorKind}
 use Rattle.audit_text.specs.declared.question.Question.{Question}
+use Rattle.batched_text.specs.declared.settings.Settings.{Settings}
 use Rattle.bohm_base.specs.declared.command_line.ArgumentFault.{ArgumentFault}
 use Rattle.command_line.specs.Options.{limit_among, progress_among, question_among}
 use Rattle.command_line.specs.Ways.{IsWithin, way_among}
@@ -12,6 +13,7 @@ use Rattle.command_line.specs.declared.command_words.ProgramFault.{ProgramFault}
 use Rattle.command_line.specs.declared.command_words.Source.{Source}
 use Rattle.command_line.specs.declared.command_words.Usage.{Usage}
 use Rattle.command_line.specs.declared.command_words.Verb.{Verb}
+use Rattle.command_line.specs.declared.options.Choice.{Choice}
 use Rattle.command_line.specs.declared.options.Limit.{Limit}
 use Rattle.command_line.specs.declared.options.Progress.{Progress}
 use Rattle.command_line.specs.declared.options.Way.{Way}
@@ -28,15 +30,15 @@ TellsError Usage.NoMemory kind = Unit {0}
 abbrev pub TellsOneOf : Kinds → Usage → Type 0
 TellsOneOf kinds usage = (usage ≡ Usage.NoMemory) ⊎ ((kind : ErrorKind) × (IsAmong kind kinds × TellsError usage kind))
 
--- 0 where help or the version was asked for, 2 for words that are wrong, and 1 for any other fault
+-- 0 where help or the version was asked for, 2 for words that `clap` refuses, and 1 for any other fault
 abbrev pub status_of : ProgramFault → ℕ
 status_of (ProgramFault.Arguments ArgumentFault.NotUtf8) = 2
 status_of (ProgramFault.Arguments ArgumentFault.NoMemory) = 1
 status_of (ProgramFault.Usage (Usage.Fault text)) = 2
 status_of (ProgramFault.Usage (Usage.Help text)) = 0
-status_of (ProgramFault.Usage Usage.OutsideLimits) = 2
+status_of (ProgramFault.Usage Usage.OutsideLimits) = 1
 status_of (ProgramFault.Usage Usage.NoMemory) = 1
-status_of ProgramFault.Open = 1
+status_of (ProgramFault.Open text) = 1
 status_of (ProgramFault.Work fault) = 1
 
 -- a fault of the work on a log has one line
@@ -55,7 +57,7 @@ message_of (ProgramFault.Usage (Usage.Fault text)) = string_bytes text
 message_of (ProgramFault.Usage (Usage.Help text)) = string_bytes text
 message_of (ProgramFault.Usage Usage.OutsideLimits) = codes "bohm: bad settings"
 message_of (ProgramFault.Usage Usage.NoMemory) = codes "bohm: out of memory"
-message_of ProgramFault.Open = codes "bohm: cannot open file"
+message_of (ProgramFault.Open text) = string_bytes text
 message_of (ProgramFault.Work fault) = work_message fault
 
 -- the subcommand of a name
@@ -77,14 +79,14 @@ path_named word = option_and_then (λ path. if bytes_eq path (codes "-") then No
 
 -- what is asked for, over the log of a path, or of standard input without one
 pub data Asked : Type 0 where
-  run : Option Text → Way → Asked
+  run : Option Text → Settings → Choice → Asked
   serial : Option Text → Asked
   explain : Option Text → Question → Asked
   grants : Option Text → Limit → Asked
 
 -- what a subcommand asks for with these words, if its numbers are within their limits
 abbrev pub asked_by : Verb → Option Text → List Row → Option Asked
-asked_by Verb.Run path rows = option_map (run path) (way_among rows)
+asked_by Verb.Run path rows = option_map (λ (way : Way). run path way.settings way.ahead) (way_among rows)
 asked_by Verb.Serial path rows = Some (serial path)
 asked_by Verb.Explain path rows = option_map (explain path) (question_among rows)
 asked_by Verb.Grants path rows = option_map (grants path) (limit_among rows)
@@ -100,7 +102,7 @@ progress_in entered = option_map_or (λ found. progress_among found.1) entered P
 
 -- what a command asks for
 abbrev pub asked : Command → Asked
-asked (Command.Run source way) = run (path_of source) way
+asked (Command.Run source settings ahead) = run (path_of source) settings ahead
 asked (Command.Serial source) = serial (path_of source)
 asked (Command.Explain source question) = explain (path_of source) question
 asked (Command.Grants source limit) = grants (path_of source) limit
@@ -115,7 +117,7 @@ AsksOutsideLimits entered = asked_in entered ≡ None
 
 -- the numbers of a run are within their limits
 abbrev pub IsWithinLimits : Command → Type 0
-IsWithinLimits (Command.Run source way) = IsWithin way
+IsWithinLimits (Command.Run source settings ahead) = IsWithin (record { settings = settings; ahead = ahead })
 IsWithinLimits (Command.Serial source) = Unit {0}
 IsWithinLimits (Command.Explain source question) = Unit {0}
 IsWithinLimits (Command.Grants source limit) = Unit {0}

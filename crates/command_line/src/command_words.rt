@@ -6,10 +6,11 @@ ghost use Rattle.clap.specs.Words.{fault_of, found_of, kind_of, rows_of, subcomm
 ghost use Rattle.command_line.specs.Shapes.{bohm_app, texts_of};
 ghost use Rattle.command_line.specs.Words.{Asks, AsksOutsideLimits, IsWithinLimits, TellsError, TellsOneOf, asked, asked_by, asked_in, message_of, path_named, path_of, progress_in, status_of, verb_named};
 
-use crate::options::{Limit, Progress, Way, limit_of, progress_of, question_of, way_of};
+use crate::options::{Choice, Limit, Progress, limit_of, progress_of, question_of, way_of};
 use crate::subcommands::program;
 use crate::work::WorkFault;
 use audit_text::Question;
+use batched_text::Settings;
 use bohm_base::ArgumentFault;
 use clap::error::ErrorKind;
 use clap::{ArgMatches, Error};
@@ -26,8 +27,9 @@ pub enum Source<'a> {
 /// What the program is asked to do.
 #[derive(Clone, Copy)]
 pub enum Command<'a> {
-    /// Execute a log in this way and write its report.
-    Run(Source<'a>, Way),
+    /// Execute a log by these settings and write its report: in order where they are one worker and one partition, while this many threads
+    /// read lines ahead, and otherwise in batches.
+    Run(Source<'a>, Settings, Choice),
     /// Execute a log by the slow serial run, and write its report.
     Serial(Source<'a>),
     /// Answer a question about a place of a log.
@@ -44,7 +46,7 @@ impl<'a> Command<'a> {
         ensures { path_of result ≡ path_in self.now }
     {
         match *self {
-            Command::Run(source, _)
+            Command::Run(source, _, _)
             | Command::Serial(source)
             | Command::Explain(source, _)
             | Command::Grants(source, _) => source,
@@ -89,8 +91,8 @@ pub enum ProgramFault {
     /// The words can't be had.
     Arguments(ArgumentFault),
     Usage(Usage),
-    /// The file can't be opened.
-    Open,
+    /// The file can't be opened, with the text to print.
+    Open(String),
     /// The work on the log failed.
     Work(WorkFault),
 }
@@ -139,7 +141,7 @@ fn command_of<'a>(verb: Verb, source: Source<'a>, found: &ArgMatches<'a>) -> Opt
 {
     match verb {
         Verb::Run => match way_of(found) {
-            Some(way) => Some(Command::Run(source, way)),
+            Some(way) => Some(Command::Run(source, way.settings, way.ahead)),
             None => None,
         },
         Verb::Serial => Some(Command::Serial(source)),
@@ -223,9 +225,9 @@ pub fn ending(fault: &ProgramFault) -> (u8, &str)
         ProgramFault::Arguments(ArgumentFault::NoMemory) => (1, "bohm: out of memory"),
         ProgramFault::Usage(Usage::Fault(text)) => (2, text.as_str()),
         ProgramFault::Usage(Usage::Help(text)) => (0, text.as_str()),
-        ProgramFault::Usage(Usage::OutsideLimits) => (2, "bohm: bad settings"),
+        ProgramFault::Usage(Usage::OutsideLimits) => (1, "bohm: bad settings"),
         ProgramFault::Usage(Usage::NoMemory) => (1, "bohm: out of memory"),
-        ProgramFault::Open => (1, "bohm: cannot open file"),
+        ProgramFault::Open(text) => (1, text.as_str()),
         ProgramFault::Work(WorkFault::NoMemory) => (1, "bohm: out of memory"),
         ProgramFault::Work(WorkFault::Read) => (1, "bohm: cannot read"),
         ProgramFault::Work(WorkFault::Write) => (1, "bohm: cannot write"),

@@ -14,7 +14,7 @@ mod subcommands;
 mod work;
 
 pub use command_words::{Command, ProgramFault, Request, Source, Usage, ending, read_words};
-pub use options::{Choice, Limit, Progress, Way};
+pub use options::{Choice, Limit, Progress};
 pub use running::do_command;
 pub use sources::Sources;
 pub use work::{Job, SeededJob, Task, WorkFault};

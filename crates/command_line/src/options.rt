@@ -28,28 +28,28 @@ const WORKERS: NumberOption = NumberOption {
     name: "workers",
     least: 1,
     most: MOST_WORKERS as u64,
-    help: "How many workers run a batch, 1 to 64. Without it and --partitions the log is run in order",
+    help: "How many workers run a batch, 1 to 64 [default: 4 beside --partitions, else 1: in order, which is faster]",
 };
 
 const PARTITIONS: NumberOption = NumberOption {
     name: "partitions",
     least: 1,
     most: MOST_PARTITIONS as u64,
-    help: "By how many partitions a batch is placed, 1 to 64",
+    help: "By how many partitions a batch is placed, 1 to 64 [default: 4 beside --workers, else 1]",
 };
 
 const BATCH: NumberOption = NumberOption {
     name: "batch",
     least: 1,
     most: MOST_BATCH_STATEMENTS,
-    help: "How many accepted statements a batch has, 1 to 65536",
+    help: "How many accepted statements a batch has at most, 1 to 65536; of use beside --workers or --partitions",
 };
 
 const KEEP: NumberOption = NumberOption {
     name: "keep",
     least: 0,
     most: MOST_KEPT_BATCHES,
-    help: "Before how many of the last batches the rows are kept, 0 to 65535",
+    help: "Before how many of the last batches the rows are kept, 0 to 65535; of use beside --workers or --partitions",
 };
 
 /// How many threads at most read lines ahead of the run.
@@ -59,7 +59,7 @@ const AHEAD: NumberOption = NumberOption {
     name: "ahead",
     least: 0,
     most: MOST_AHEAD,
-    help: "How many threads read lines ahead of a run in order, 0 to 63",
+    help: "How many threads read lines ahead of a run in order, 0 to 63; pays for logs of some 100 kB and more [default: as many as processors, up to 3]",
 };
 
 /// How many workers run a batch, or by how many partitions it is placed, where only the other is given.
@@ -171,15 +171,15 @@ fn choice_of(found: &ArgMatches<'_>, option: &NumberOption) -> Option<Choice>
 
 /// How a log is run.
 #[derive(Clone, Copy)]
-pub enum Way {
-    /// Place after place, while this many threads read lines ahead. The usual number is as many as pay.
-    InOrder(Choice),
-    /// In batches, by these settings.
-    InBatches(Settings),
+pub(crate) struct Way {
+    /// By how many workers and partitions, and in which batches.
+    pub(crate) settings: Settings,
+    /// How many threads read lines ahead. The usual number is as many as pay, and none beside batches.
+    pub(crate) ahead: Choice,
 }
 
 /// Whether one worker runs the log, and places it by one partition.
-fn is_alone(settings: &Settings) -> bool
+pub(crate) fn is_alone(settings: &Settings) -> bool
     ensures { result ≡ is_alone settings.now }
 {
     settings.workers == 1 && settings.partitions == 1
@@ -196,19 +196,16 @@ pub enum Progress {
     Usual,
 }
 
-/// The way that goes by some settings, with this many threads that read lines ahead: one worker and one partition run the log in order.
-/// None where lines would be read ahead of batches.
+/// The way that goes by some settings, with this many threads that read lines ahead. None where they would be read ahead of batches.
 fn way_by(settings: Settings, ahead: u64) -> Option<Way>
     requires settings { are_within_limits settings ≡ true }
     requires ahead { ahead ≤ MOST_AHEAD }
     ensures way { result ≡ way_by settings ahead }
     ensures within { IfSome result IsWithin }
 {
-    if is_alone(&settings) {
-        return Some(Way::InOrder(Choice::Given(ahead)));
-    }
-    if ahead == 0 {
-        return Some(Way::InBatches(settings));
+    if is_alone(&settings) || ahead == 0 {
+        let ahead = Choice::Given(ahead);
+        return Some(Way { settings, ahead });
     }
     None
 }
@@ -265,7 +262,13 @@ fn way_told(
     ensures within { IfSome result IsWithin }
 {
     if !is_given(workers) && !is_given(partitions) {
-        return Some(Way::InOrder(ahead));
+        let settings = Settings {
+            workers: 1,
+            partitions: 1,
+            batch,
+            keep,
+        };
+        return Some(Way { settings, ahead });
     }
     let settings = Settings {
         workers: share_of(workers, MOST_WORKERS as u64) as usize,

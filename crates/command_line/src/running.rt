@@ -1,23 +1,23 @@
 //! Does what a command asks for with its log, and says how that ended.
 
-ghost use Rattle.std.specs.Prelude.{◌≡◌, ◌≤◌, ◌<◌, ◌-◌, ◌^◌, Err, IfNone, IfSome, IsSome, OnOk, true};
+ghost use Rattle.std.specs.Prelude.{◌≡◌, ◌≤◌, ◌<◌, ◌-◌, ◌^◌, Err, IfErr, IfOk, IfSome, IsSome, OnErr, OnOk, true};
 ghost use Rattle.line_io.specs.Known.{raised};
 ghost use Rattle.audit_text.specs.Texts.{BeginsText, WritesText};
 ghost use Rattle.command_line.specs.Options.{IfGiven};
-ghost use Rattle.command_line.specs.Running.{AnswersCommand, DoesCommand, IsTaskOf, LacksPlace, path_in};
+ghost use Rattle.command_line.specs.Running.{AnswersCommand, DoesCommand, IsOpenFault, IsTaskOf, IsUnopened, LacksPlace, path_in};
 ghost use Rattle.command_line.specs.Tasks.{TaskIsWithin};
 ghost use Rattle.command_line.specs.Words.{IsWithinLimits};
 
-use crate::command_words::{Command, ProgramFault};
-use crate::options::{Choice, MOST_AHEAD, Way};
+use crate::command_words::{Command, ProgramFault, Source};
+use crate::options::{Choice, MOST_AHEAD, is_alone};
 use crate::sources::Sources;
 use crate::work::{Job, Task, WorkFault};
 use line_io::Counted;
 use std::alloc::Global;
 use std::io::{Read, Write};
 use std::sync::Wait;
-use std::thread;
 use std::thread::Threads;
+use std::{io, thread};
 
 /// How many threads read lines ahead where no number is given, at most: no more were measured to pay.
 const USUAL_AHEAD: u64 = 3;
@@ -52,23 +52,44 @@ fn task_of<R: Threads>(rt: &R, command: Command<'_>) -> Task
     ensures within { TaskIsWithin result }
 {
     match command {
-        Command::Run(_, Way::InOrder(ahead)) => Task::InOrder(ahead_by(rt, ahead)),
-        Command::Run(_, Way::InBatches(settings)) => Task::InBatches(settings),
+        Command::Run(_, settings, ahead) if is_alone(&settings) => {
+            Task::InOrder(ahead_by(rt, ahead))
+        }
+        Command::Run(_, settings, _) => Task::InBatches(settings),
         Command::Serial(_) => Task::Slow,
         Command::Explain(_, question) => Task::Explain(question),
         Command::Grants(_, limit) => Task::Picture(limit),
     }
 }
 
-/// The log of the source that a command names, from its first byte on. None where its file can't be opened.
-fn open_log<L: Sources>(sources: L, command: &Command<'_>) -> Option<Counted<L::Log>>
-    ensures bytes { IfSome result (λ log. L.Log.remaining log.inner ≡ L.bytes sources (path_in command.now)) }
-    ensures refused { IfNone result (L.refuses sources (path_in command.now)) }
-    ensures input { IfNone result (IsSome (path_in command.now)) }
+/// The fault of a source that can't be opened. Its text names the file and the system's reason.
+fn open_fault(alloc: Global, source: Source<'_>, error: &io::Error) -> ProgramFault
+    ensures { IsUnopened result }
+{
+    let path = match source {
+        Source::StandardInput => "-",
+        Source::File(path) => path,
+    };
+    match format!(in alloc; "bohm: cannot open {path}: {error}") {
+        Ok(text) => ProgramFault::Open(text),
+        Err(_) => ProgramFault::Work(WorkFault::NoMemory),
+    }
+}
+
+/// The log of the source that a command names, from its first byte on. An error where its file can't be opened.
+fn open_log<L: Sources>(
+    alloc: Global,
+    sources: L,
+    command: &Command<'_>,
+) -> Result<Counted<L::Log>, ProgramFault>
+    ensures bytes { IfOk result (λ log. L.Log.remaining log.inner ≡ L.bytes sources (path_in command.now)) }
+    ensures refused { OnErr result (L.refuses sources (path_in command.now)) }
+    ensures input { OnErr result (IsSome (path_in command.now)) }
+    ensures fault { IfErr result IsUnopened }
 {
     match sources.open(command.source()) {
-        Ok(log) => Some(Counted::new(log)),
-        Err(_) => None,
+        Ok(log) => Ok(Counted::new(log)),
+        Err(error) => Err(open_fault(alloc, command.source(), &error)),
     }
 }
 
@@ -100,12 +121,13 @@ pub fn do_command<J: Job, L: Sources, T: Threads + Wait + Sync, W: Write>(
     ensures whole { OnOk result (told.new.errors ≡ told.old.errors) }
     ensures flushed { OnOk result ((told.new.flushes ≡ raised told.old.flushes) × (told.new.is_flushed ≡ true)) }
     // Open comes only where the file was refused, and then the writer is as it was. Write comes only where the writer failed.
-    ensures unopened { result ≡ Err ProgramFault.Open → L.refuses sources (path_in command.entry) × (told.new ≡ told.old) }
+    ensures unopened { IfErr result (λ fault. IsOpenFault fault → L.refuses sources (path_in command.entry) × (told.new ≡ told.old)) }
     ensures write { result ≡ Err (ProgramFault.Work WorkFault.Write) → told.old.errors < 2 ^ 64 - 1
         → told.old.errors < told.new.errors }
 {
-    let Some(mut log) = open_log(sources, &command) else {
-        return Err(ProgramFault::Open);
+    let mut log = match open_log(alloc, sources, &command) {
+        Ok(log) => log,
+        Err(fault) => return Err(fault),
     };
     let task = task_of(rt, command);
     match job.work(rt, alloc, task, &mut log, told) {

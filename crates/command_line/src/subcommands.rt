@@ -149,7 +149,7 @@ pub(crate) fn program<'a>(alloc: Global) -> Result<Command<'a>, AllocError>
     let serial = over_file(
         alloc,
         "serial",
-        "Executes a log by the slow serial run, and writes its report to standard output",
+        "Executes a log by the reference executor, for comparison on logs of up to some thousand lines",
     )?;
     let bohm = with_subcommand(alloc, bohm, serial)?;
     let explain = describe_explain(alloc)?;

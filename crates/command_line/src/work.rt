@@ -139,13 +139,13 @@ impl Job for SeededJob {
                 Err(fault) => Err(run_fault(fault)),
             },
             Task::Explain(question) => {
-                match explain_text(rt, alloc, log, told, question, self.seed) {
+                match explain_text(alloc, log, told, question, self.seed) {
                     Ok(()) => Ok(()),
                     Err(fault) => Err(audit_fault(fault)),
                 }
             }
             Task::Picture(limit) => {
-                match grants_text(rt, alloc, log, told, limit.place(), self.seed) {
+                match grants_text(alloc, log, told, limit.place(), self.seed) {
                     Ok(()) => Ok(()),
                     Err(fault) => Err(audit_fault(fault)),
                 }
