@@ -45,8 +45,12 @@ impl fmt::Display for Minutes {
 }
 
 impl Reached {
+    ghost use Rattle.std.specs.Prelude.{◌≡◌, ◌*◌, ◌-◌, ◌/◌, ◌^◌, max, min};
+
     /// Bytes a second.
-    fn speed(&self) -> u64 {
+    fn speed(&self) -> u64
+        ensures { result ≡ min (self.now.bytes * 1000) (2 ^ 64 - 1) / max self.now.millis 1 }
+    {
         self.bytes.saturating_mul(1000) / self.millis.max(1)
     }
 

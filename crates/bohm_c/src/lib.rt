@@ -78,7 +78,7 @@ fn status_number(done: Result<(), FeedFault>) -> i32
 /// The version of the library.
 #[unsafe(no_mangle)]
 pub extern "C" fn bohm_version() -> u32
-    ensures { result ≡ VERSION }
+    ensures { result ≡ 100 }
 {
     VERSION
 }
