@@ -59,7 +59,7 @@ const AHEAD: NumberOption = NumberOption {
     name: "ahead",
     least: 0,
     most: MOST_AHEAD,
-    help: "How many threads read lines ahead of a run in order, 0 to 63; pays for logs of some 100 kB and more [default: as many as processors, up to 3]",
+    help: "How many threads read lines ahead of a run in order, 0 to 63; pays for long logs [default: 3, or fewer where there are fewer processors]",
 };
 
 /// How many workers run a batch, or by how many partitions it is placed, where only the other is given.

@@ -1,6 +1,6 @@
 use Rattle.std.proofs.Common.{rules, ap, ap₂, codes, ◌∙◌, ◌≡◌}
 use Rattle.std.proofs.lemmas.Result.{IfOk-weaker}
-use Rattle.clap.specs.Words.{App, app_of, new_app, new_rule, rule_of, with_rule}
+use Rattle.clap.specs.Words.{app_of, new_app, new_rule, rule_of, with_rule}
 use Rattle.command_line.specs.Options.{with_options}
 use Rattle.command_line.proofs.subcommands.describe_run.Goals as goal
 

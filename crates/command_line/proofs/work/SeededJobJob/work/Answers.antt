@@ -1,4 +1,4 @@
-use Rattle.std.proofs.Common.{ℕ, List, subst, sym}
+use Rattle.std.proofs.Common.{ℕ, subst, sym}
 use Rattle.std.specs.Prelude.{Option}
 use Rattle.audit_text.specs.Picture.{IsPicture}
 use Rattle.audit_text.specs.Texts.{BeginsText, WritesText}
