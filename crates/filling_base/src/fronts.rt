@@ -39,6 +39,7 @@ impl<K: Fills> Batch<K> {
         requires within { index < (K.batch self.now.key).size }
         ensures same { holding.new ≡ gone_on holding.old holding.new.view }
         ensures learns { OnlyLearns holding.old.view holding.new.view }
+        ensures known { holding.old.view.placed ≡ true → holding.new ≡ holding.old }
         ensures found { MatchOption result (KnowsPast (K.batch self.now.key) holding.new.view index)
             (λ partition. MeetsUnplaced (K.batch self.now.key) index partition holding.old.view holding.new.view) }
     {

@@ -6,6 +6,10 @@ use Rattle.line_io.specs.declared.line_reader.LineReader.{LineReader}
 abbrev pub ahead : LineReader → List ℕ
 ahead lines = slice_range lines.buffer.items lines.start lines.end
 
+-- How many bytes are read ahead at most.
+abbrev pub most_ahead : LineReader → ℕ
+most_ahead lines = lines.most
+
 -- The line that the last call found, where it found one, up to `KEPT_BYTES`.
 abbrev pub found_line : LineReader → List ℕ
 found_line lines =

@@ -40,7 +40,7 @@ pub struct LineReader {
     most: usize,
     alloc: Global,
     ghost some: { 0 < vec_len buffer },
-    ghost room: { vec_len buffer ≤ BUFFER_BYTES },
+    ghost room: { vec_len buffer ≤ most },
     ghost most_room: { most ≤ BUFFER_BYTES },
     ghost ordered: { start ≤ end },
     ghost within: { end ≤ vec_len buffer },
@@ -50,13 +50,14 @@ pub struct LineReader {
 }
 
 impl LineReader {
-    ghost use Rattle.line_io.specs.Ahead.{ahead, found_line};
+    ghost use Rattle.line_io.specs.Ahead.{ahead, found_line, most_ahead};
 
     /// Nothing read ahead, and no line found. The buffer keeps its `FIRST_BUFFER_BYTES`. The error is
     /// that memory ran out.
     pub fn new(alloc: Global) -> Result<LineReader, AllocError>
         ensures ahead { IfOk result (λ lines. ahead lines ≡ []) }
         ensures line { IfOk result (λ lines. found_line lines ≡ []) }
+        ensures most { IfOk result (λ lines. most_ahead lines ≡ FIRST_BUFFER_BYTES) }
     {
         Ok(LineReader {
             buffer: empty_buffer(alloc, FIRST_BUFFER_BYTES)?,
@@ -76,6 +77,7 @@ impl LineReader {
     pub fn growing(alloc: Global) -> Result<LineReader, AllocError>
         ensures ahead { IfOk result (λ lines. ahead lines ≡ []) }
         ensures line { IfOk result (λ lines. found_line lines ≡ []) }
+        ensures most { IfOk result (λ lines. most_ahead lines ≡ BUFFER_BYTES) }
     {
         let mut lines = LineReader::new(alloc)?;
         lines.most = BUFFER_BYTES;
@@ -106,6 +108,7 @@ impl LineReader {
         requires { count ≤ length (ahead self.old) }
         ensures ahead { ahead self.new ≡ drop count (ahead self.old) }
         ensures line { found_line self.new ≡ found_line self.old }
+        ensures most { most_ahead self.new ≡ most_ahead self.old }
     {
         self.start += count;
     }
@@ -134,6 +137,7 @@ impl LineReader {
         ensures ahead { self.new.start ≡ self.new.end }
         ensures kept { self.new.kept.items ≡ self.old.kept.items }
         ensures is_kept { self.new.is_kept ≡ self.old.is_kept }
+        ensures most { most_ahead self.new ≡ most_ahead self.old }
     {
         let bytes = self.buffer.len();
         if self.end < bytes || bytes >= self.most {
@@ -162,6 +166,7 @@ impl LineReader {
         ensures left { ReadSome (R.remaining reader.old.inner) (R.remaining reader.new.inner) }
         ensures kept { self.new.kept.items ≡ self.old.kept.items }
         ensures is_kept { self.new.is_kept ≡ self.old.is_kept }
+        ensures most { most_ahead self.new ≡ most_ahead self.old }
     {
         self.grow();
         match reader.read(self.buffer.as_mut_slice()) {
@@ -195,6 +200,7 @@ impl LineReader {
         ensures left { ReadSome (R.remaining reader.old.inner) (R.remaining reader.new.inner) }
         ensures kept { self.new.kept.items ≡ self.old.kept.items }
         ensures is_kept { self.new.is_kept ≡ self.old.is_kept }
+        ensures most { most_ahead self.new ≡ most_ahead self.old }
         ensures unread { 0 < length (ahead self.old)
             → (reader.new ≡ reader.old) × (ahead self.new ≡ ahead self.old) }
     {
@@ -215,6 +221,7 @@ impl LineReader {
         ensures start { self.new.start ≡ self.old.start }
         ensures end { self.new.end ≡ self.old.end }
         ensures is_kept { self.new.is_kept ≡ self.old.is_kept }
+        ensures most { most_ahead self.new ≡ most_ahead self.old }
     {
         let more = n.min(KEPT_BYTES - self.kept.len());
         self.kept
@@ -241,6 +248,7 @@ impl LineReader {
         ensures left { ReadSome (R.remaining reader.old.inner) (R.remaining reader.new.inner) }
         ensures gone { result ≡ Err ReadFault.Read → ahead self.new ≡ [] }
         ensures is_kept { self.new.is_kept ≡ self.old.is_kept }
+        ensures most { most_ahead self.new ≡ most_ahead self.old }
     {
         'pieces: loop {
             if let Some(n) = self.first_feed() {
@@ -285,6 +293,7 @@ impl LineReader {
         ensures bound { 0 < length (ahead self.new) → reader.new.given ≤ MOST_GIVEN_BYTES + BUFFER_BYTES }
         // After an error of the reader nothing of the line is ahead.
         ensures gone { result ≡ Err ReadFault.Read → ahead self.new ≡ [] }
+        ensures most { most_ahead self.new ≡ most_ahead self.old }
         // Where a whole line was read ahead, the reader isn't asked.
         ensures unread { HasLine (ahead self.old) → reader.new ≡ reader.old }
     {

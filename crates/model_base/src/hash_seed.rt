@@ -1,7 +1,7 @@
 //! Where the hashes of keys start, and how they end.
 
-ghost use Rattle.std.specs.Prelude.{◌≡◌};
-ghost use Rattle.model_base.specs.Seeds.{folded};
+ghost use Rattle.std.specs.Prelude.{◌≡◌, ℕ, List, IfOk, length};
+ghost use Rattle.model_base.specs.Seeds.{folded, seed_of};
 
 use std::hash::{BuildHasher, FoldHasher, Hasher};
 use std::io;
@@ -62,17 +62,26 @@ impl HashSeed {
         }
     }
 
-    /// A seed that is drawn from the system. Fails where the system gives no random bytes.
-    pub fn drawn(rt: &impl RandomSource) -> io::Result<Self> {
-        let mut bytes = [0; DRAWN_BYTES];
-        rt.fill_bytes(&mut bytes)?;
-        let drawn = u128::from_le_bytes(bytes);
+    /// The seed that these bytes make.
+    fn of_bytes(bytes: &[u8; DRAWN_BYTES]) -> Self
+        ensures { result ≡ seed_of bytes.now }
+    {
+        let drawn = u128::from_le_bytes(*bytes);
         let mut inner = FoldHasher::default();
         inner.write_u64((drawn & 0xFFFF_FFFF_FFFF_FFFF) as u64);
         let last = (drawn >> 64) as u64 | 1;
-        Ok(HashSeed {
+        HashSeed {
             first: Multiplied { inner, last },
-        })
+        }
+    }
+
+    /// A seed that is drawn from the system. Fails where the system gives no random bytes.
+    pub fn drawn(rt: &impl RandomSource) -> io::Result<Self>
+        ensures { IfOk result (λ seed. (bytes : List ℕ) × (length bytes ≡ DRAWN_BYTES) × (seed ≡ seed_of bytes)) }
+    {
+        let mut bytes = [0; DRAWN_BYTES];
+        rt.fill_bytes(&mut bytes)?;
+        Ok(HashSeed::of_bytes(&bytes))
     }
 }
 

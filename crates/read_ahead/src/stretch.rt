@@ -1,6 +1,6 @@
 //! A stretch of the buffered bytes, whose pieces are read before their turn by whichever thread comes first.
 
-ghost use Rattle.std.specs.Prelude.{◌≡◌, ◌<◌, ◌≤◌, ℕ, [], All, IfOk, IfSome, List, length};
+ghost use Rattle.std.specs.Prelude.{◌≡◌, ◌<◌, ◌≤◌, ℕ, [], All, IfOk, IfSome, List, length, max, vec_len};
 ghost use Rattle.sequencer.specs.Catalog.{Names, no_names};
 ghost use Rattle.read_ahead.specs.Ahead.{IsAhead};
 
@@ -18,6 +18,9 @@ use std::sync::atomic::{AtomicBool, AtomicUsize};
 
 /// How often a thread looks whether a piece was read, before it goes on without.
 const MOST_LOOKS: usize = 4096;
+
+// A thread that waits for another reads the line itself after a moment.
+const _: () = prove!(MOST_LOOKS <= 65_536);
 
 /// The bytes that are read before their turn, and the names by which they are: a call picks both.
 pub trait Basis {
@@ -60,6 +63,48 @@ struct Place<B: Basis> {
     read: Mutex<Option<ReadPiece<B>>>,
 }
 
+/// Pieces that were run, and are filled again.
+#[derive(Drop)]
+struct SparePieces {
+    pieces: Vec<Piece>,
+    /// How many of them are kept at most.
+    most: usize,
+    ghost few: { vec_len pieces ≤ most },
+}
+
+impl SparePieces {
+    /// These pieces, with up to this many.
+    fn new(pieces: Vec<Piece>, most: usize) -> Self
+        ensures { result.most ≡ max most (vec_len pieces) }
+    {
+        SparePieces {
+            most: most.max(pieces.len()),
+            pieces,
+        }
+    }
+
+    /// Keeps a piece, unless as many are kept as there may be.
+    fn keep(&mut self, piece: Piece)
+        ensures { self.new.most ≡ self.old.most }
+    {
+        if self.pieces.len() < self.most {
+            let _pushed = self.pieces.push(piece);
+        }
+    }
+
+    /// The piece that was kept last, if there is one.
+    fn take(&mut self) -> Option<Piece>
+        ensures { self.new.most ≡ self.old.most }
+    {
+        self.pieces.pop()
+    }
+
+    fn into_pieces(self) -> Vec<Piece> {
+        let SparePieces { pieces, .. } = self;
+        pieces
+    }
+}
+
 /// The pieces of a stretch. Threads share it by reference: each takes up a piece that no other has taken up, while one of them runs the
 /// lines in order, by what was found of those of a piece if it was read by then.
 #[derive(Drop)]
@@ -72,8 +117,7 @@ pub struct Stretch<B: Basis> {
     next: AtomicUsize,
     /// How many pieces are run: they need not be read any more.
     passed: AtomicUsize,
-    /// Pieces that were run, and are filled again.
-    spare: Mutex<Vec<Piece>>,
+    spare: Mutex<SparePieces>,
     alloc: Global,
     ghost within: { All (λ cut. cut ≤ length B.bytes) cuts.items },
 }
@@ -104,6 +148,7 @@ impl<B: Basis> Stretch<B> {
     {
         let cuts = piece_cuts(alloc, bytes, 0, to, count)?;
         let pieces = unread(alloc, cuts.len() - 1)?;
+        let spare = SparePieces::new(spare, pieces.len());
         Ok(Stretch {
             cuts,
             pieces,
@@ -145,20 +190,18 @@ impl<B: Basis> Stretch<B> {
         Some(read.piece)
     }
 
-    /// Gives a piece back that was run. It is filled again, unless as many wait for that as the stretch has: a thread that finds the lock
+    /// Gives a piece back that was run, which is filled again unless as many wait for that as a stretch has: a thread that finds the lock
     /// taken makes a new one, so that they would grow in number with the log.
     pub fn give_back(&self, piece: Piece) {
         if let Some(mut spare) = self.spare.try_lock() {
-            if spare.len() < self.pieces.len() {
-                let _pushed = spare.push(piece);
-            }
+            spare.keep(piece);
         }
     }
 
     /// The piece that is filled next: one that was run, or a new one.
     fn empty_piece(&self) -> Piece {
         if let Some(mut spare) = self.spare.try_lock() {
-            if let Some(piece) = spare.pop() {
+            if let Some(piece) = spare.take() {
                 return piece;
             }
         }
@@ -245,6 +288,6 @@ impl<B: Basis> Stretch<B> {
     /// The pieces that were run, whose lists may be filled again.
     pub fn into_spare(self) -> Vec<Piece> {
         let Stretch { spare, .. } = self;
-        spare.into_inner()
+        spare.into_inner().into_pieces()
     }
 }

@@ -1,6 +1,6 @@
 //! The end of a log, of which the first statements aren't kept.
 
-ghost use Rattle.std.specs.Prelude.{◌≡◌, ◌<◌, ◌≤◌, None, Some, drop, length, slice_get, All, IfOk, OnOk, OnErr};
+ghost use Rattle.std.specs.Prelude.{◌≡◌, ◌<◌, ◌≤◌, None, Some, [], drop, length, max, slice_get, vec_capacity, All, IfOk, OnOk, OnErr};
 ghost use Rattle.log_text.specs.LineBuffers.{sentence_of};
 ghost use Rattle.log_text.specs.Statement.{IsInGrammar, Sentence};
 ghost use Rattle.model_base.specs.Growing.{NeedsOwnTables};
@@ -74,6 +74,20 @@ fn room_for(
         RawForm::Run { .. } => lend(spare, room),
         RawForm::Create { .. } | RawForm::Deed(_) => room,
     }
+}
+
+/// Drops the statements that are kept. Those for which there is room stay as spare ones. It doesn't allocate.
+fn drop_kept(spare: &mut Vec<Statement>, kept: &mut Vec<Statement>)
+    ensures kept { kept.new.items ≡ [] }
+    ensures few { length spare.new.items ≤ max (vec_capacity spare.old) (vec_capacity kept.old) }
+{
+    if spare.len() < kept.len() {
+        mem::swap(spare, kept);
+    }
+    if kept.len() <= spare.capacity() - spare.len() {
+        let _appended = spare.append(kept);
+    }
+    kept.clear();
 }
 
 /// A statement that holds no memory.
@@ -246,13 +260,7 @@ impl LogTail {
         ensures { self.new ≡ record self.old { dropped = length self.old.log.statements } }
     {
         self.past.append(&self.kept);
-        if self.spare.len() < self.kept.len() {
-            mem::swap(&mut self.spare, &mut self.kept);
-        }
-        if self.kept.len() <= self.spare.capacity() - self.spare.len() {
-            let _appended = self.spare.append(&mut self.kept);
-        }
-        self.kept.clear();
+        drop_kept(&mut self.spare, &mut self.kept);
     }
 
     /// What the log knows of names: a user or a table is of this log where its number is below their count.

@@ -1,5 +1,6 @@
 -- A pass that goes on, and what it knows of the places.
 use Rattle.std.proofs.Common.{◌≡◌, ◌≢◌, ◌⊎◌, ◌<◌, ◌≤◌, ◌+◌, ◌++◌, ℕ, Bool, true, false, List, [], ◌∷◌, length, get_or, drop, All, IsPermutation, ap, refl, subst, sym, ◌∙◌, arith, inl, inr}
+use Rattle.std.specs.Prelude.{Result, Ok, Err, OnErr, OnOk}
 use Rattle.std.proofs.lemmas.List.{append-nil, append_assoc}
 use Rattle.std.proofs.lemmas.List.Elements.{All-nil, All-push, All-same}
 use Rattle.std.proofs.lemmas.List.Sorted.{IsPermutation-append_right, IsPermutation-refl, IsPermutation-sym, IsPermutation-to_front, IsPermutation-trans}
@@ -293,6 +294,22 @@ worse_done WorkedNoMemory NotStarted is = absurd (cc is)
 worse_done WorkedNoMemory WorkedNoMemory is = absurd (cc is)
 worse_done WorkedNoMemory WorkedDone is = absurd (cc is)
 worse_done WorkedDone other is = refl
+
+-- what holds of a worker that came to its end, where its outcome is that all is done; it isn't one that wasn't started
+pub ended_of : {A S P : Type 0} (ended : Result A S) (outcome : Worked) → OnErr ended (outcome ≡ WorkedNoMemory) → OnOk ended P
+    → outcome ≡ WorkedDone → P
+ended_of (Ok end) outcome err all is = all
+ended_of (Err stopped) outcome err all is = absurd (cc (err, is))
+
+pub not_unstarted : {A S : Type 0} (ended : Result A S) (outcome : Worked) → OnOk ended (outcome ≡ WorkedDone)
+    → OnErr ended (outcome ≡ WorkedNoMemory) → outcome ≢ NotStarted
+not_unstarted (Ok end) outcome ok err is = absurd (cc (ok, is))
+not_unstarted (Err stopped) outcome ok err is = absurd (cc (err, is))
+
+-- what holds of what came to its end
+pub at_end : {A S P : Type 0} (ended : Result A S) (end : A) → ended ≡ Ok end → OnOk ended P → P
+at_end (Ok same) end is ok = ok
+at_end (Err stopped) end is ok = absurd (cc is)
 
 -- a worker that started, where all others started too
 pub worse_started : (one other : Worked) → one ≢ NotStarted → other ≡ WorkedDone → worse one other ≢ NotStarted

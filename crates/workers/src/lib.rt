@@ -14,6 +14,7 @@ mod gate;
 mod placing;
 mod rounds;
 mod shared;
+mod stop;
 mod work;
 
 pub use fault::RunFault;

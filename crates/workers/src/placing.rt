@@ -1,73 +1,64 @@
 //! How a worker places its partitions, and which these are.
 
-ghost use Rattle.std.specs.Prelude.{◌≡◌, ◌<◌, ◌≤◌, [], ℕ, IfOk, OnOk, Some, length, slice_get, suc, true};
+ghost use Rattle.std.specs.Prelude.{◌≡◌, ◌<◌, ◌≤◌, [], ℕ, IfOk, OnOk, Some, length, slice_get, suc};
 ghost use Rattle.workers.specs.Placing.{AreDealt, HavePlaced, IsGiven};
 
 use crate::gate::Gate;
 use crate::shared::Shared;
+use crate::stop::Stopped;
 use filling_base::{Advanced, BatchPlacer, Fills};
 use std::alloc::{AllocError, Global};
 use std::collections::VecDeque;
-use std::sync::atomic::Ordering;
 
-/// Places one place more, if there is one. Where memory runs out it stops the workers, and returns false.
+/// Places one place more, if there is one. On `Err`, memory ran out.
 fn place_one<K: Fills, P: BatchPlacer<K>, G: Gate>(
     shared: &Shared<'_, K, G>,
     placer: &mut P,
-) -> bool
+) -> Result<(), Stopped>
     requires same_table { P.is_of shared.now placer.old }
     ensures same_table { P.is_of shared.now placer.new }
-    ensures further { result ≡ true → (count : ℕ) → count < (K.batch shared.now.key).size → count ≤ P.front placer.old
-        → suc count ≤ P.front placer.new }
+    ensures further { OnOk result ((count : ℕ) → count < (K.batch shared.now.key).size → count ≤ P.front placer.old
+        → suc count ≤ P.front placer.new) }
 {
     match placer.advance(shared.batch) {
         Advanced::Next(place) => {
             shared.gate.placed(placer.partition(), place);
-            true
+            Ok(())
         }
-        Advanced::End => true,
-        Advanced::NoMemory => {
-            shared.stop.store(true, Ordering::SeqCst);
-            false
-        }
+        Advanced::End => Ok(()),
+        Advanced::NoMemory => Err(shared.stop.tell()),
     }
 }
 
-/// Places one place more for each partition, unless the workers were stopped: then it returns false.
+/// Places one place more for each partition. On `Err`, the workers were stopped.
 fn place_round<K: Fills, P: BatchPlacer<K>, G: Gate>(
     shared: &Shared<'_, K, G>,
     placers: &mut [P],
     count: usize,
-) -> bool
+) -> Result<(), Stopped>
     requires within { count < (K.batch shared.now.key).size }
     requires placed { HavePlaced P.is_of P.front shared.now count placers.old }
-    ensures { result ≡ true → HavePlaced P.is_of P.front shared.now (suc count) placers.new }
+    ensures { OnOk result (HavePlaced P.is_of P.front shared.now (suc count) placers.new) }
 {
-    if shared.stop.load(Ordering::SeqCst) {
-        return false;
-    }
+    shared.stop.ask()?;
     for placer in placers.iter_mut() {
-        if !place_one(shared, placer) {
-            return false;
-        }
+        place_one(shared, placer)?;
     }
-    true
+    Ok(())
 }
 
-/// Places the whole batch for these partitions, one place for each by turns, unless the workers are stopped: then it returns false.
+/// Places the whole batch for these partitions, one place for each by turns. On `Err`, the workers were stopped.
 pub(crate) fn place_all<K: Fills, P: BatchPlacer<K>, G: Gate>(
     shared: &Shared<'_, K, G>,
     placers: &mut [P],
-) -> bool
+) -> Result<(), Stopped>
     requires placed { HavePlaced P.is_of P.front shared.now 0 placers.old }
-    ensures { result ≡ true → HavePlaced P.is_of P.front shared.now (K.batch shared.now.key).size placers.new }
+    ensures { OnOk result (HavePlaced P.is_of P.front shared.now (K.batch shared.now.key).size placers.new) }
 {
     for count in 0..shared.places() {
-        if !place_round(shared, placers, count) {
-            return false;
-        }
+        place_round(shared, placers, count)?;
     }
-    true
+    Ok(())
 }
 
 /// No placer for each of this many workers. An error is out of memory.

@@ -1,6 +1,6 @@
 //! The rounds of one worker over the places that it has not found done.
 
-ghost use Rattle.std.specs.Prelude.{◌≡◌, ◌⊎◌, ◌<◌, ◌≤◌, ◌+◌, ◌-◌, [], ℕ, IfOk, false, true};
+ghost use Rattle.std.specs.Prelude.{◌≡◌, ◌⊎◌, ◌<◌, ◌≤◌, ◌+◌, ◌-◌, [], ℕ, IfOk, OnErr, OnOk};
 ghost use Rattle.std.specs.VecDeque.{deque_capacity, deque_len};
 ghost use Rattle.words.specs.Passes.{IsPassOf};
 ghost use Rattle.words.specs.Views.{In};
@@ -8,11 +8,11 @@ ghost use Rattle.workers.specs.Working.{AreLeft, GoesOn, HasAsked, IsStopped};
 
 use crate::gate::Gate;
 use crate::shared::Shared;
+use crate::stop::Stopped;
 use filling_base::{Batch, Fills, Tried};
 use std::alloc::{AllocError, Global};
 use std::collections::VecDeque;
 use std::ops::Range;
-use std::sync::atomic::Ordering;
 use words::Pass;
 
 /// Looks whether all is placed. Once that is found, no front is looked at any more.
@@ -25,23 +25,23 @@ pub(crate) fn look<K: Fills>(batch: &Batch<K>, pass: Pass) -> Pass
 }
 
 /// Asks once for each place of the rest, in order: one that is done leaves the rest, and any other goes to its end.
-/// Where memory runs out it stops the workers. False if they were stopped.
+/// On `Err`, memory ran out or the workers were stopped.
 pub(crate) fn go_round<K: Fills, G: Gate>(
     shared: &Shared<'_, K, G>,
     pass: Pass,
     rest: &mut VecDeque<usize>,
-) -> (Pass, bool)
+) -> (Pass, Result<(), Stopped>)
     requires same_table { IsPassOf shared.now pass }
     requires left { AreLeft (K.batch shared.now.key).size pass.view.known rest.old.items }
     ensures on { GoesOn pass result.0 }
-    ensures left { result.1 ≡ true → AreLeft (K.batch shared.now.key).size result.0.view.known rest.new.items }
-    ensures asked { result.1 ≡ true → HasAsked (K.batch shared.now.key) pass rest.old.items result.0 rest.new.items }
-    ensures stopped { result.1 ≡ false → IsStopped (K.batch shared.now.key) pass rest.old.items result.0 rest.new.items }
+    ensures left { OnOk result.1 (AreLeft (K.batch shared.now.key).size result.0.view.known rest.new.items) }
+    ensures asked { OnOk result.1 (HasAsked (K.batch shared.now.key) pass rest.old.items result.0 rest.new.items) }
+    ensures stopped { OnErr result.1 (IsStopped (K.batch shared.now.key) pass rest.old.items result.0 rest.new.items) }
 {
     let mut last = pass;
     for _ in 0..rest.len() {
-        if shared.stop.load(Ordering::SeqCst) {
-            return (last, false);
+        if let Err(stopped) = shared.stop.ask() {
+            return (last, Err(stopped));
         }
         let Some(index) = rest.pop_front() else {
             break;
@@ -54,13 +54,10 @@ pub(crate) fn go_round<K: Fills, G: Gate>(
             Tried::Done => shared.gate.after(place),
             Tried::Busy(_) => rest.push_back_reserved(index),
             Tried::NotPlaced(_) => rest.push_back_reserved(index),
-            Tried::NoMemory => {
-                shared.stop.store(true, Ordering::SeqCst);
-                return (last, false);
-            }
+            Tried::NoMemory => return (last, Err(shared.stop.tell())),
         }
     }
-    (last, true)
+    (last, Ok(()))
 }
 
 /// Adds the indices of a range, for which there is room.

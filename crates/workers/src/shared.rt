@@ -1,10 +1,10 @@
 //! What the workers of a batch share.
 
+use crate::stop::Stop;
 use filling_base::{Batch, Fills};
 use model_base::Place;
 use std::alloc::Global;
 use std::marker::Model;
-use std::sync::atomic::AtomicBool;
 
 /// What the workers of a batch share. Contracts see the words of the batch.
 pub(crate) struct Shared<'a, K: Fills, G> {
@@ -12,8 +12,8 @@ pub(crate) struct Shared<'a, K: Fills, G> {
     pub(crate) batch: &'a Batch<K>,
     /// Who is notified of its places.
     pub(crate) gate: &'a G,
-    /// Whether the workers are stopped.
-    pub(crate) stop: &'a AtomicBool,
+    /// By which the workers are told to stop.
+    pub(crate) stop: &'a Stop,
     /// Its first place in the log.
     pub(crate) start: Place,
 }

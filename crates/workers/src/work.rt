@@ -1,6 +1,6 @@
 //! Several workers.
 
-ghost use Rattle.std.specs.Prelude.{◌≡◌, ◌≢◌, ◌<◌, ◌≤◌, ◌+◌, ◌^◌, [], All, IfOk, length, vec_capacity};
+ghost use Rattle.std.specs.Prelude.{◌≡◌, ◌≢◌, ◌<◌, ◌≤◌, ◌+◌, ◌*◌, ◌/◌, ◌^◌, [], All, IfOk, OnErr, OnOk, Ok, length, vec_capacity};
 ghost use Rattle.words.specs.Passes.{IsPassOf};
 ghost use Rattle.workers.specs.Placing.{HavePlaced, HaveDealt};
 ghost use Rattle.workers.specs.Working.{GoesOn, KnowsAll, came_of, worse};
@@ -10,11 +10,11 @@ use crate::gate::Gate;
 use crate::placing::{deal, place_all};
 use crate::rounds::{all_places, go_round, look};
 use crate::shared::Shared;
+use crate::stop::{Stop, Stopped};
 use filling_base::{Batch, BatchPlacer, Fills};
 use model_base::Place;
 use std::alloc::{AllocError, Global};
 use std::sync::Wait;
-use std::sync::atomic::{AtomicBool, Ordering};
 use std::thread;
 use std::thread::{Promise, PromisedHandle, Scope, Threads};
 use words::Pass;
@@ -46,51 +46,62 @@ impl Worked {
 /// Where a worker begins: the places are cut into as many parts as there are workers, and it begins with its own.
 fn first_of(worker: usize, workers: usize, size: usize) -> usize
     requires { worker < workers }
-    ensures { result ≤ size }
+    ensures within { result ≤ size }
+    ensures share { result ≡ worker * size / workers }
 {
     (worker as u128 * size as u128 / workers as u128) as usize
 }
 
 /// One worker: it places its partitions, and then goes round over the places, from this one on, until each is done or the workers are
-/// stopped. After a round in which none was done it lets other threads run. Where memory runs out it stops the others.
+/// stopped. After a round in which none was done it lets other threads run. On `Err`, memory ran out or the workers were stopped.
 fn work<K: Fills, P: BatchPlacer<K>, G: Gate, R: Wait>(
     rt: &R,
     shared: &Shared<'_, K, G>,
     pass: Pass,
     mut placers: Vec<P>,
     first: usize,
-) -> (Pass, Worked)
+) -> (Pass, Result<(), Stopped>)
     requires same_table { IsPassOf shared.now pass }
     requires placers { HavePlaced P.is_of P.front shared.now 0 placers.items }
     requires first { first ≤ (K.batch shared.now.key).size }
     ensures on { GoesOn pass result.0 }
-    ensures all { result.1 ≡ Worked.Done → KnowsAll (K.batch shared.now.key).size result.0.view }
-    ensures started { result.1 ≢ Worked.NotStarted }
+    ensures all { OnOk result.1 (KnowsAll (K.batch shared.now.key).size result.0.view) }
 {
     let Ok(mut rest) = all_places(shared.alloc, first, shared.places()) else {
-        shared.stop.store(true, Ordering::SeqCst);
-        return (pass, Worked::NoMemory);
+        return (pass, Err(shared.stop.tell()));
     };
-    if !place_all(shared, &mut placers) {
-        return (pass, Worked::NoMemory);
+    if let Err(stopped) = place_all(shared, &mut placers) {
+        return (pass, Err(stopped));
     }
     let mut last = pass;
     for _ in rt.forever() {
         let count = rest.len();
         if count == 0 {
-            return (last, Worked::Done);
+            return (last, Ok(()));
         }
         let looked = look(shared.batch, last);
-        let (next, is_over) = go_round(shared, looked, &mut rest);
+        let (next, asked) = go_round(shared, looked, &mut rest);
         last = next;
-        if !is_over {
-            return (last, Worked::NoMemory);
+        match asked {
+            Ok(()) => {}
+            Err(stopped) => return (last, Err(stopped)),
         }
         if rest.len() == count {
             thread::yield_now();
         }
     }
     unreachable!()
+}
+
+/// The outcome of what came to its end, or of what was stopped by this fault.
+fn outcome(ended: Result<(), Stopped>, fault: Worked) -> Worked
+    ensures ok { OnOk ended (result ≡ Worked.Done) }
+    ensures err { OnErr ended (result ≡ fault) }
+{
+    match ended {
+        Ok(()) => Worked::Done,
+        Err(_stopped) => fault,
+    }
 }
 
 /// The outcome of two workers.
@@ -114,12 +125,12 @@ impl<K: Fills> Drop for OfBatch<'_, K> {
     }
 }
 
-impl<'a, K: Fills> Promise<(Pass, Worked)> for OfBatch<'a, K> {
+impl<'a, K: Fills> Promise<(Pass, Result<(), Stopped>)> for OfBatch<'a, K> {
     ghost kept_by = { λ promise ended. IsPassOf promise.0.now ended.0 };
 }
 
-/// Starts each of these workers but the lowest on a thread of its own, the last one first. If a thread can't be started, all are stopped,
-/// and `NotStarted` is returned. There is room for the threads.
+/// Starts each of these workers but the lowest on a thread of its own, the last one first. On `Err`, a thread couldn't be started, and all
+/// are stopped. There is room for the threads.
 fn start_others<
     's,
     E,
@@ -133,8 +144,8 @@ fn start_others<
     shared: &'s Shared<'s, K, G>,
     pass: Pass,
     hands: &mut Vec<Vec<P>>,
-    threads: &mut Vec<PromisedHandle<(Pass, Worked), OfBatch<'s, K>>>,
-) -> (Pass, Worked)
+    threads: &mut Vec<PromisedHandle<(Pass, Result<(), Stopped>), OfBatch<'s, K>>>,
+) -> (Pass, Result<(), Stopped>)
     requires same_table { IsPassOf shared.now pass }
     requires hands { HaveDealt (λ hand. hand.items) P.is_of P.front shared.now hands.old.items }
     requires some { 0 < length hands.old.items }
@@ -144,8 +155,8 @@ fn start_others<
     ensures hands { HaveDealt (λ hand. hand.items) P.is_of P.front shared.now hands.new.items }
     ensures some { 0 < length hands.new.items }
     ensures helpers { All (λ thread. thread.promise.0.now ≡ shared.now) threads.new.items }
-    ensures each { result.1 ≡ Worked.Done → (length hands.new.items ≡ 1) × (length threads.new.items + 1 ≡ length hands.old.items) }
-    ensures alone { length hands.old.items ≤ 1 → result.1 ≡ Worked.Done }
+    ensures each { OnOk result.1 ((length hands.new.items ≡ 1) × (length threads.new.items + 1 ≡ length hands.old.items)) }
+    ensures alone { length hands.old.items ≤ 1 → result.1 ≡ Ok tt }
 {
     let count = hands.len();
     let mut rest = pass;
@@ -158,18 +169,17 @@ fn start_others<
         rest = kept;
         let Ok(thread) = scope.spawn_with(
             OfBatch(shared.batch),
-            move || -> (Pass, Worked)
+            move || -> (Pass, Result<(), Stopped>)
                 requires { IsPassOf shared.now other × HavePlaced P.is_of P.front shared.now 0 placers.items
                     × (first ≤ (K.batch shared.now.key).size) }
                 ensures { IsPassOf shared.entry.now result.0 }
             { work(rt, shared, other, placers, first) },
         ) else {
-            shared.stop.store(true, Ordering::SeqCst);
-            return (rest, Worked::NotStarted);
+            return (rest, Err(shared.stop.tell()));
         };
         threads.push_reserved(thread);
     }
-    (rest, Worked::Done)
+    (rest, Ok(()))
 }
 
 /// Joins the threads of the other workers. The pass knows what it knew and what they know.
@@ -178,7 +188,7 @@ fn join_others<'a, K: Fills, G, R: Threads>(
     shared: &Shared<'a, K, G>,
     pass: Pass,
     worked: Worked,
-    mut threads: Vec<PromisedHandle<(Pass, Worked), OfBatch<'a, K>>>,
+    mut threads: Vec<PromisedHandle<(Pass, Result<(), Stopped>), OfBatch<'a, K>>>,
 ) -> (Pass, Worked)
     requires same_table { IsPassOf shared.now pass }
     requires helpers { All (λ thread. thread.promise.0.now ≡ shared.now) threads.items }
@@ -191,7 +201,7 @@ fn join_others<'a, K: Fills, G, R: Threads>(
     'threads: while let Some(thread) = threads.pop() {
         let (other, theirs) = thread.join(rt);
         known = shared.batch.join(known, other);
-        worst = both(worst, theirs);
+        worst = both(worst, outcome(theirs, Worked::NoMemory));
     }
     (known, worst)
 }
@@ -258,12 +268,12 @@ pub fn run_workers<
     let Ok(hands) = hands_of(alloc, batch, placers, count) else {
         return (pass, Worked::NoMemory);
     };
-    let flag = AtomicBool::new(false);
+    let stop = Stop::new();
     let shared = &Shared {
         alloc,
         batch,
         gate: workers.gate,
-        stop: &flag,
+        stop: &stop,
         start,
     };
     thread::scope(
@@ -284,8 +294,10 @@ pub fn run_workers<
             let Some(placers) = hands.pop() else {
                 unreachable!()
             };
-            let (pass, mine) = work(rt, shared, pass, placers, 0);
-            join_others(rt, shared, pass, both(mine, started), threads)
+            let (pass, ended) = work(rt, shared, pass, placers, 0);
+            let mine = outcome(ended, Worked::NoMemory);
+            let others = outcome(started, Worked::NotStarted);
+            join_others(rt, shared, pass, both(mine, others), threads)
         },
     )
 }

@@ -3,10 +3,10 @@ use Rattle.workers.proofs.placing.place_all.Goals as goal
 
 pub loop-count-preserved : goal.loop-count-preserved
 loop-count-preserved g c = λ index placer is.
-    let placed = c.place_round.ensures c.if-not-place_round.false index placer is in
+    let placed = c.in_ok-place_round.ensures index placer is in
     (placed.0, omega (arith, placed.1))
 
 pub returns : goal.returns
-returns g c = λ _. λ index placer is.
+returns g c = λ index placer is.
     let placed = c.loop-count.invariant index placer is in
     (placed.0, omega (arith, placed.1, c.loop-count-test.false, c.places-count-end.ensures))

@@ -21,7 +21,7 @@ loop-placer-preserved g c = λ index placer is.
     let item = get_or placers at c.placer-item.result in
     let had = c.loop-placer.invariant at item (slice_get-get_or placers at c.placer-item.result (omega arith)) in
     let after = c.place_one.new.placer in
-    let further = c.place_one.ensures.further c.if-not-place_one.false c.args.count c.requires.within had.1 in
+    let further = c.in_ok-place_one.ensures.further c.args.count c.requires.within had.1 in
     elim (set_or_old placers at index after placer is) [
       | inl here ↦ rw here.1 (c.place_one.ensures.same_table, omega (arith, further), (λ _. further))
       | inr there ↦ (let old = c.loop-placer.invariant index placer there.1 in
@@ -29,6 +29,6 @@ loop-placer-preserved g c = λ index placer is.
     ]
 
 pub returns : goal.returns
-returns g c = λ _. λ index placer is.
+returns g c = λ index placer is.
     let old = c.loop-placer.invariant index placer is in
     (old.0, old.2 (omega (arith, slice_get_within c.loop-placer.placers index placer is, c.loop-placer-test.false)))

@@ -4,7 +4,7 @@ use Rattle.filling_base.specs.declared.run.Tried.TheVariants.{Done, Busy, NotPla
 use Rattle.filling_base.specs.Tries.{TriedMeans}
 use Rattle.workers.proofs.Going.{asked_all, asked_first, asked_none, asked_on, asking_done, asking_missed, asking_none, left_done, left_first, left_open, on_and_on, stays, stopped_at, stopped_before, tells_done}
 use Rattle.workers.proofs.rounds.go_round.Goals as goal
-use Rattle.workers.proofs.rounds.go_round.Goals.{else-loop-test, in-Busy, in-Done, in-NotPlaced, then-loop-test+else-load+in_default}
+use Rattle.workers.proofs.rounds.go_round.Goals.{else-loop-test, in-Busy, in-Done, in-NotPlaced, then-loop-test+in_default+in_default-pop_front}
 
 pub loop-init : goal.loop-init
 loop-init g c = record { on = stays c.args.pass; left = c.requires.left; asked = asking_none (g.K.BatchData.batch c.args.shared.now.key) c.args.pass c.args.rest.now.items }
@@ -29,7 +29,7 @@ returns-in-NoMemory-clause-on g c =
     c.try_run-next.ensures.same c.try_run-next.ensures.tells)
 
 pub returns-in-NoMemory-clause-stopped : goal.returns-in-NoMemory-clause-stopped
-returns-in-NoMemory-clause-stopped g c _ =
+returns-in-NoMemory-clause-stopped g c =
     let batch = g.K.BatchData.batch c.args.shared.now.key in
     let index = c.in-Some.index in
     let before = c.loop.last in
@@ -93,18 +93,18 @@ loop-preserved g c =
       }
     ]
 
-pub returns-then-load-clause-stopped : goal.returns-then-load-clause-stopped
-returns-then-load-clause-stopped g c _ =
+pub returns-in-Err-clause-stopped : goal.returns-in-Err-clause-stopped
+returns-in-Err-clause-stopped g c =
     stopped_before (g.K.BatchData.batch c.args.shared.now.key) c.args.pass c.loop.last c.args.rest.now.items c.loop.rest.items c.loop.counter c.loop.invariant.asked
 
 pub returns-clause-asked : goal.returns-clause-asked
-returns-clause-asked g c _ =
+returns-clause-asked g c =
     let batch = g.K.BatchData.batch c.args.shared.now.key in
     let first = c.args.rest.now.items in
     let asked = c.loop.invariant.asked in
     elim c.loop-test.branch [
       | else-loop-test w ↦ rw w.rest-is (asked_all batch c.args.pass c.loop.last first c.loop.rest.items c.loop.counter asked
           (omega (arith, w.loop-test.false, c.len-end.ensures, c.args.rest.now.ok.0)))
-      | then-loop-test+else-load+in_default w ↦ rw w.rest-is (asked_none batch c.args.pass c.loop.last first c.loop.rest.items w.pop_front.new.self.items
-          c.loop.counter asked w.in_default.ensures.items (omega (arith, w.in_default.ensures.cases.0, c.loop.rest.ok.0)))
+      | then-loop-test+in_default+in_default-pop_front w ↦ rw w.rest-is (asked_none batch c.args.pass c.loop.last first c.loop.rest.items w.pop_front.new.self.items
+          c.loop.counter asked w.in_default-pop_front.ensures.items (omega (arith, w.in_default-pop_front.ensures.cases.0, c.loop.rest.ok.0)))
     ]

@@ -13,7 +13,7 @@ threads-preserved g c =
     record {
       on = subst (λ (after : PassState). GoesOn c.args.pass after) (sym c.join-known.ensures)
           (on_and_on c.args.pass c.threads.known (joined_pass c.threads.known c.join-other.result.0) invariant.on (joined_on c.threads.known c.join-other.result.0));
-      done = λ done. invariant.done (worse_done c.threads.worst c.join-other.result.1 (sym c.both-worst.ensures ∙ done));
+      done = λ done. invariant.done (worse_done c.threads.worst c.outcome.result (sym c.both-worst.ensures ∙ done));
       helpers = fewer.0;
       alone = λ none. absurd (none_last c.pop.new.self.items c.threads.threads.items c.in-Some.thread c.in-Some.ensures.items (invariant.alone none).0);
     }

@@ -58,6 +58,7 @@ pieces-preserved g c =
       left = read_more _ _ _ c.pieces.invariant.left c.look_ahead.ensures.left;
       errors = c.in_ok-look_ahead.ensures.ok ∙ c.pieces.invariant.errors;
       is_kept = c.look_ahead.ensures.is_kept ∙ c.keep-in-pieces.ensures.is_kept ∙ c.pieces.invariant.is_kept;
+      most = c.look_ahead.ensures.most ∙ c.keep-in-pieces.ensures.most ∙ c.pieces.invariant.most;
     }
 
 pub pieces-init : goal.pieces-init
@@ -69,6 +70,7 @@ pieces-init g c = record {
   left = read_none _;
   errors = refl;
   is_kept = refl;
+  most = refl;
 }
 
 pub pieces-smaller : goal.pieces-smaller

@@ -2,7 +2,7 @@
 use Rattle.std.proofs.Common.{◌≡◌, ◌<◌, ◌≤◌, ◌+◌, ◌-◌, length}
 use Rattle.std.specs.Io.KnownBytes.{prepend_known}
 use Rattle.line_io.proofs.Pieces.{KeepsLine}
-use Rattle.line_io.specs.Ahead.{ahead}
+use Rattle.line_io.specs.Ahead.{ahead, most_ahead}
 use Rattle.line_io.specs.Known.{ReadSome}
 use Rattle.line_io.specs.declared.limits.TheConstants.{BUFFER_BYTES, MOST_GIVEN_BYTES}
 use Rattle.line_io.proofs.line_reader.LineReader.rest_of_line.Given as goal
@@ -16,6 +16,7 @@ invariant-pieces g l = record {
   left : ReadSome (g.R.Read.remaining l.initial.reader.inner) (g.R.Read.remaining l.reader.inner);
   errors : l.reader.errors ≡ l.initial.reader.errors;
   is_kept : l.self.is_kept ≡ l.initial.self.is_kept;
+  most : most_ahead l.self ≡ most_ahead l.initial.self;
 }
 
 abbrev pub decreases-pieces : goal.decreases-pieces
