@@ -8,7 +8,6 @@ use Rattle.model_base.specs.declared.row.Key.{Key}
 use Rattle.model_base.specs.declared.statement.Statement.{Statement}
 use Rattle.model_base.specs.Outcomes.{rows_before}
 use Rattle.model_base.specs.References.{declares_write}
-use Rattle.model_base.specs.Rows.{Rows}
 use Rattle.model_base.specs.Versions.{accesses_of}
 use Rattle.chains.specs.declared.version.Version.{Version}
 use Rattle.chains.specs.Store.{AreBetween, Gains, IsRight, Store, newest_or, of_key, row_in, versions_at, versions_between}
@@ -84,19 +83,4 @@ gains-right log old new cells new_end known further gains right are place key lo
           ∙ ap (λ (vs : List Version). newest_or (rows_before log old.end key.table key.row) vs place key) are
           ∙ range-right log old.end (new_end - old.end) place key (omega arith) (omega (arith, high, gains.end))
       | inr early ↦ gains.kept place key from early ∙ right place key from early
-    ]
-
--- where a place leaves the rows as they are, a right store that passes it stays so
-pub pass-right : (log : List Statement) (store : Store) → store.mark ≤ store.end → ((key : Key) → AreBetween 0 store.end (of_key key store.versions))
-    → rows_before log (store.end + 1) ≡ rows_before log store.end → IsRight log store
-    → IsRight log (record { versions = store.versions; mark = store.mark; end = store.end + 1 })
-pass-right log store within ordered same right place key low high =
-    elim (cases_lt place (store.end + 1)) [
-      | inl before ↦ right place key low (omega arith)
-      | inr last ↦
-          let is : place ≡ store.end + 1 = omega arith in
-          newest-past store.end place key store.versions (ordered key) (omega arith)
-          ∙ right store.end key within (omega arith)
-          ∙ ap (λ (rows : Rows). rows key.table key.row) (sym same)
-          ∙ ap (λ (at : ℕ). rows_before log at key.table key.row) (sym is)
     ]

@@ -30,10 +30,10 @@ impl Model for Rows {
 }
 
 impl Rows {
-    ghost use Rattle.std.specs.Prelude.{◌≡◌, ◌+◌, ◌≤◌, ◌<◌, ◌&&◌, ◌++◌, ◌∷◌, [], List, None, ℕ, OnOk, OnErr, is_none, length, map, nat_lt, not, slice_set};
+    ghost use Rattle.std.specs.Prelude.{◌≡◌, ◌+◌, ◌≤◌, ◌<◌, ◌&&◌, ◌++◌, ◌∷◌, [], List, None, ℕ, OnOk, OnErr, false, is_none, length, map, nat_lt, not, slice_set, true};
     ghost use Rattle.std.specs.Bool.{OnTrue, OnFalse};
     ghost use Rattle.model_base.specs.declared.row.Key.{Key as RowKey};
-    ghost use Rattle.chains.specs.Kept.{AreChained, AreNoted, AreWrittenBelow, AreWrittenInOrder, IsStoreKept, next_swept, replacing_after, written_by};
+    ghost use Rattle.chains.specs.Kept.{AreChained, AreNoted, AreWrittenBelow, AreWrittenInOrder, IsFrom, IsStoreKept, next_swept, replacing_after, written_by};
     ghost use Rattle.chains.specs.Keyed.{held_below, without_last};
     ghost use Rattle.chains.specs.Store.{AreBetween, is_spent, newest_or, of_key, swept, trimmed};
     ghost use Rattle.chains.specs.declared.writes.Written.{Written as Noted};
@@ -237,6 +237,7 @@ impl Rows {
             → newest_or None self.new.versions place key ≡ newest_or None self.old.versions place key }
         ensures kept { (end : ℕ) → IsStoreKept self.old absent.old.items mark end → IsStoreKept self.new absent.new.items mark end }
         ensures noted { AreNoted self.new absent.new.items }
+        ensures used { IsFrom mark absent.new.items }
         ensures gone { result + length self.new.versions ≡ length self.old.versions }
     {
         let _waiting = absent.len();
@@ -247,17 +248,20 @@ impl Rows {
         gone
     }
 
-    /// Takes out the single versions that lie below the mark and say nothing but that the row is absent, whether they are noted or not, and
-    /// returns how many there were. It costs what the rows hold.
-    pub(crate) fn sweep_all(&mut self, mark: Place) -> usize
-        requires { (absent : List Noted) × (end : ℕ) × IsStoreKept self.old absent mark end }
+    /// Takes out the single versions that lie below the mark and say nothing but that the row is absent, where some aren't noted, and
+    /// returns how many there were. From then on all are. It costs what the rows hold, and so is called after a cut alone.
+    pub(crate) fn sweep_all(&mut self, mark: Place, is_noted: &mut bool) -> usize
+        requires cut { is_noted.old ≡ false }
+        requires kept { (absent : List Noted) × (end : ℕ) × IsStoreKept self.old absent mark end }
         ensures left { (key : RowKey) → of_key key self.new.versions ≡ swept mark (of_key key self.old.versions) }
         ensures newest { (place : ℕ) (key : RowKey)
             → newest_or None self.new.versions place key ≡ newest_or None self.old.versions place key }
         ensures kept { (absent : List Noted) (end : ℕ) → IsStoreKept self.old absent mark end → IsStoreKept self.new absent mark end }
         ensures noted { (absent : List Noted) (end : ℕ) → IsStoreKept self.old absent mark end → AreNoted self.new absent }
+        ensures whole { is_noted.new ≡ true }
         ensures gone { result + length self.new.versions ≡ length self.old.versions }
     {
+        *is_noted = true;
         let before = self.newest.len();
         self.newest.retain(
             |_key: &Key, newest: &mut Dated| -> bool

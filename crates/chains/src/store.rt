@@ -161,22 +161,12 @@ impl Chains {
         if self.is_noted {
             return self.rows.sweep(&mut self.absent, self.mark);
         }
-        self.is_noted = true;
-        self.rows.sweep_all(self.mark)
-    }
-
-    /// Moves the end on over one place, which leaves the rows as they are.
-    pub fn pass(&mut self)
-        requires { self.old.end + 1 < 2 ^ 64 }
-        ensures store { self.new ≡ record self.old { end = self.old.end + 1 } }
-        ensures right { (log : List Statement) → rows_before log (self.old.end + 1) ≡ rows_before log self.old.end
-            → IsRight log self.old → IsRight log self.new }
-    {
-        self.end += 1;
+        self.rows.sweep_all(self.mark, &mut self.is_noted)
     }
 
     /// Fills a window, whatever it held, with the rows that the statement's accesses have at the end, as `fill` does, and notes in it
     /// where each was found: `put_place` looks there first. It has no output then.
+    #[inline(always)]
     pub fn fill_window(&self, statement: &Statement, window: &mut Window)
         requires { length (accesses_of statement.now.form) ≤ MOST_ACCESSES }
         ensures shows { WindowShows (accesses_of statement.now.form) window.new (rows_at_end self.now) }
@@ -187,6 +177,14 @@ impl Chains {
         for (index, access) in accesses.iter().enumerate() {
             self.rows.find(self.end, access.key, index, window);
         }
+    }
+
+    /// Moves the end on over one place.
+    fn pass(&mut self)
+        requires { self.old.end + 1 < 2 ^ 64 }
+        ensures { self.new ≡ record self.old { end = self.old.end + 1 } }
+    {
+        self.end += 1;
     }
 
     /// Adds the version that an access of the place before the end leaves, if it may change its row. On `Err`, out of memory,
@@ -223,6 +221,8 @@ impl Chains {
         requires places { length accesses.now ≤ MOST_ACCESSES }
         requires room { self.old.end + 1 < 2 ^ 64 }
         ensures ok { OnOk result (Gains self.old self.new (versions_by self.old.end accesses.now window.now.rows) (self.old.end + 1)) }
+        ensures versions { OnOk result ((key : Key) → of_key key self.new.versions
+            ≡ of_key key (self.old.versions ++ versions_by self.old.end accesses.now window.now.rows)) }
         ensures right { OnOk result ((log : List Statement)
             → versions_by self.old.end accesses.now window.now.rows ≡ versions_at log self.old.end
             → IsRight log self.old → IsRight log self.new) }

@@ -9,7 +9,7 @@ use Rattle.model_base.specs.declared.deed.Record.{Record}
 use Rattle.model_base.specs.declared.outcome.Outcome.{Outcome}
 use Rattle.model_base.specs.declared.statement.Statement.{Statement}
 use Rattle.model_base.specs.Outcomes.{outcome}
-use Rattle.chains.specs.Store.{IsRight, Store}
+use Rattle.chains.specs.Store.{IsRight, Store, of_key, versions_between}
 use Rattle.grants_base.specs.Book.{Entries, table_of_deed}
 use Rattle.grants_base.specs.declared.entries.Creation.{Creation}
 use Rattle.sequencer.specs.Log.{Accepted, empty_log}
@@ -101,6 +101,8 @@ module _ (tail : Tail) (before after : RunState) (past kept all : List Outcome) 
     ends = ends_at tail.log (past ++ kept) later (past ++ all) end joined less next;
     stands = has.stands;
     came = came_to tail.log (past ++ kept) later (past ++ all) end joined less next is.is.came;
+    versions = λ key.
+        has.versions key ∙ (λ i. of_key key ((seen i).store.versions ++ versions_between tail.log.statements (count i) end));
     mark = has.mark ∙ ap (λ (r : Run). r.store.mark) seen;
     log = ap (λ (r : Run). r.log) seen;
     dropped = ap (λ (r : Run). r.dropped) seen;

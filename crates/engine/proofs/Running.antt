@@ -40,23 +40,6 @@ pub rows-are : (log : List Statement) (store : Store) (place : ℕ) → store.ma
 rows-are log store place within is right =
     fun_ext (λ table. fun_ext (λ row. right store.end (record { table = table; row = row }) within (omega arith) ∙ ap (λ (n : ℕ). rows_before log n table row) is))
 
--- a store that is right stays so where a place leaves the rows as they are
-abbrev PassesRight : Store → Store → Type 0
-PassesRight old new = (other : List Statement) → rows_before other (old.end + 1) ≡ rows_before other old.end → IsRight other old → IsRight other new
-
--- a place that leaves the rows as they are was passed
-pub pass-stands : (log : List Statement) (place : ℕ) (old new : Store) (book after : Entries) → IsRunState log place old book → new ≡ record { versions = old.versions; mark = old.mark; end = old.end + 1 }
-    → PassesRight old new
-    → world_before log (place + 1) ≡ world_before log place → IsBookState log (place + 1) after → IsRunState log (place + 1) new after
-pass-stands log place old new book after stands is right same booked = record {
-  ends = ap (λ (store : Store). store.end) is ∙ ap (λ (n : ℕ). n + 1) stands.ends;
-  right =
-      right log
-      (subst (λ (n : ℕ). rows_before log (n + 1) ≡ rows_before log n) (sym stands.ends) (ap (λ (w : World). w.rows) same))
-      stands.right;
-  booked = booked;
-}
-
 module _ (log : List Statement) (place : ℕ) (statement : Statement) (at : slice_get log place ≡ Some statement) where
   abbrev own : List ℕ
   own = owners log
@@ -83,15 +66,19 @@ module _ (log : List Statement) (place : ℕ) (statement : Statement) (at : slic
       leads log place statement at (Outcome.Denied need why, world)
       (judged-form statement.form other ∙ denied need why (missing own world statement.user statement.form) is)
 
-  -- what the body in a window ends with, the place results in
+  -- what the body in a window ends with
   abbrev Left : Window → BodyEnd → Ending
   Left ran end = ending_of end (with_rows (accesses_of statement.form) ran.rows world.rows) ran.outputs
+
+  -- the place results in it
+  abbrev pub Ends : Window → BodyEnd → Type 0
+  Ends ran end = Leads log place statement at (ended own world deeds (Left ran end), changed world deeds (Left ran end))
 
   pub ended-leads : creates statement.form ≡ false → missing own world statement.user statement.form ≡ None → (store : Store) → store.mark ≤ store.end
       → (book : Entries) → IsRunState log place store book → (window ran : Window) → WindowShows (accesses_of statement.form) window (rows_at_end store)
       → (found end : BodyEnd) → found ≡ end → ((rows : Rows) → WindowShows (accesses_of statement.form) window rows
       → body rows statement.form ≡ ending_of found (with_rows (accesses_of statement.form) ran.rows rows) ran.outputs)
-      → Leads log place statement at (ended own world deeds (Left ran end), changed world deeds (Left ran end))
+      → Ends ran end
   ended-leads other none store within book stands window ran shows found end is ends =
       let same = subst (WindowShows (accesses_of statement.form) window) (rows-are log store place within stands.ends stands.right) shows in
       leads log place statement at (ended own world deeds (Left ran end), changed world deeds (Left ran end))
@@ -104,12 +91,11 @@ module _ (log : List Statement) (place : ℕ) (statement : Statement) (at : slic
       → deeds_before log (place + 1) ≡ deeds_before log place ++ made
   completed-deeds rows outputs made is same = ap (λ (w : World). w.deeds) is ∙ ap (λ ds. world.deeds ++ ds) (sym same)
 
-  -- where a place makes no deed either, the book is after it too
-  pub same-stands : (old new : Store) (book : Entries) → IsRunState log place old book → AreKnown log → creates statement.form ≡ false → new ≡ record { versions = old.versions; mark = old.mark; end = old.end + 1 }
-      → PassesRight old new → world_before log (place + 1) ≡ world → IsRunState log (place + 1) new book
-  same-stands old new book stands known other is right same =
-      pass-stands log place old new book book stands is right same
-      (made_none log place book stands.booked (make_owners log place statement at book stands.booked known other) (ap (λ (w : World). w.deeds) same))
+  -- where a place leaves the world as it is, the book is after it too
+  pub same-booked : (book : Entries) → IsBookState log place book → AreKnown log → creates statement.form ≡ false → world_before log (place + 1) ≡ world
+      → IsBookState log (place + 1) book
+  same-booked book stands known other same =
+      made_none log place book stands (make_owners log place statement at book stands known other) (ap (λ (w : World). w.deeds) same)
 
   -- the versions of a place whose accesses have these rows after it
   abbrev version_of : Rows → Access → Version

@@ -1,10 +1,11 @@
 -- A log of which a beginning is finished, batch by batch. BOHM works in batches too: a batch is placed as a whole before it is run, and
 -- what comes after it is what the next one finds (J. M. Faleiro and D. J. Abadi, "Rethinking Serializable Multiversion Concurrency
 -- Control", PVLDB 8, 2015, section 3). That each place is counted as finished with its whole batch is this project's own.
-use Rattle.std.specs.Prelude.{◌≡◌, ◌==◌, ◌&&◌, ◌≤◌, ◌-◌, ℕ, Bool, List, OnErr, OnOk, Result, length, nat_le, nat_lt}
+use Rattle.std.specs.Prelude.{◌≡◌, ◌==◌, ◌&&◌, ◌≤◌, ◌-◌, ◌++◌, ℕ, Bool, List, OnErr, OnOk, Result, length, nat_le, nat_lt}
 use Rattle.model_base.specs.declared.limits.TheConstants.{MOST_BATCH_STATEMENTS, MOST_PARTITIONS, MOST_WORKERS}
 use Rattle.model_base.specs.declared.outcome.Outcome.{Outcome}
-use Rattle.chains.specs.Store.{Store}
+use Rattle.model_base.specs.declared.row.Key.{Key}
+use Rattle.chains.specs.Store.{Store, of_key, versions_between}
 use Rattle.grants_base.specs.Book.{Entries}
 use Rattle.sequencer.specs.Log.{Accepted}
 use Rattle.engine.specs.declared.crew.Crew.{Crew}
@@ -49,12 +50,16 @@ may_run run first end crew =
     && (nat_le 1 crew.workers && nat_le crew.workers MOST_WORKERS)
     && (nat_le 1 crew.partitions && nat_le crew.partitions MOST_PARTITIONS)
 
--- a call runs the places before an end: these are finished, versions and book are those before the end, and the outcomes are the log's; the
--- rows are kept from the same place on, and log and statements stay; or the call fails, and the run is as it was
+-- a call runs the places before an end: these are finished, versions and book are those before the end, and the outcomes are the log's; each
+-- key has gained a version for each write that a place declares, whatever its outcome; the rows are kept from the same place on, and log and
+-- statements stay; or the call fails, and the run is as it was
 pub record RunsTo {E : Type 0} (end : ℕ) (result : Result (Unit {0}) E) (old new : Run) : Type 0 where
   pub ends : OnOk result (finished new ≡ end)
   pub stands : OnOk result (IsRunState new.log.statements end new.store new.book)
   pub came : OnOk result (AreOutcomes new.log.statements 0 end new.outcomes)
+  pub versions :
+      OnOk result ((key : Key) → of_key key new.store.versions
+      ≡ of_key key (old.store.versions ++ versions_between new.log.statements (finished old) end))
   pub mark : OnOk result (new.store.mark ≡ old.store.mark)
   pub log : new.log ≡ old.log
   pub dropped : new.dropped ≡ old.dropped

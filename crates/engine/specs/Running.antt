@@ -2,9 +2,10 @@
 -- what it writes are versions of its place: J. M. Faleiro and D. J. Abadi, "Rethinking Serializable Multiversion Concurrency Control",
 -- PVLDB 8 (2015), section 3. That a place is cut off again where memory runs out is this project's own.
 use Rattle.std.specs.Prelude.{◌≡◌, ◌≤◌, ◌-◌, ◌++◌, ℕ, List, length}
+use Rattle.model_base.specs.declared.row.Key.{Key}
 use Rattle.model_base.specs.declared.outcome.Outcome.{Outcome}
 use Rattle.model_base.specs.declared.statement.Statement.{Statement}
-use Rattle.chains.specs.Store.{cut_store}
+use Rattle.chains.specs.Store.{cut_store, of_key, versions_between}
 use Rattle.grants_base.specs.Book.{cut_book}
 use Rattle.sequencer.specs.Tail.{Tail}
 use Rattle.engine.specs.declared.state.RunState.{RunState}
@@ -25,8 +26,10 @@ pub record AddsFrom (place : ℕ) (before after : RunState) : Type 0 where
   pub chains : (first : ℕ) → first ≤ place → cut_store first after.chains ≡ cut_store first before.chains
   pub book : (first : ℕ) → first ≤ place → cut_book first after.book ≡ cut_book first before.book
 
--- the range was run: the state is the one before its end, and the outcomes of its places were appended
+-- the range was run: the state is the one before its end, each key has gained the versions that the places leave, and their outcomes were
+-- appended
 pub record HasRun (log : List Statement) (first end : ℕ) (before after : RunState) (outcomes all : List Outcome) : Type 0 where
   pub stands : IsRunState log end after.chains after.book
   pub mark : after.chains.mark ≡ before.chains.mark
+  pub versions : (key : Key) → of_key key after.chains.versions ≡ of_key key (before.chains.versions ++ versions_between log first end)
   pub came : (found : List Outcome) × (all ≡ outcomes ++ found) × AreOutcomes log first (end - first) found

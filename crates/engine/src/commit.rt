@@ -1,7 +1,8 @@
 //! Rows and grants, moved on over the places of a finished batch.
 
-ghost use Rattle.std.specs.Prelude.{◌≡◌, ◌-◌, OnErr, OnOk};
-ghost use Rattle.chains.specs.Store.{versions_between};
+ghost use Rattle.std.specs.Prelude.{◌≡◌, ◌-◌, ◌++◌, OnErr, OnOk};
+ghost use Rattle.model_base.specs.declared.row.Key.{Key};
+ghost use Rattle.chains.specs.Store.{of_key, versions_between};
 ghost use Rattle.engine.specs.Known.{AreKnown};
 ghost use Rattle.engine.specs.RunState.{IsRunState};
 ghost use Rattle.engine.specs.Running.{IsNextRange};
@@ -30,6 +31,8 @@ pub fn advance(
     requires came { AreOutcomes log.now.log.statements range.start (range.end - range.start) outcomes.now }
     requires left { versions.items ≡ versions_between log.now.log.statements range.start range.end }
     ensures ok { OnOk result (IsRunState log.now.log.statements range.end state.new.chains state.new.book) }
+    ensures versions { OnOk result ((key : Key) → of_key key state.new.chains.versions
+        ≡ of_key key (state.old.chains.versions ++ versions_between log.now.log.statements range.start range.end)) }
     ensures mark { OnOk result (state.new.chains.mark ≡ state.old.chains.mark) }
     ensures err { OnErr result (state.new ≡ state.old) }
 {

@@ -11,6 +11,8 @@ use std::marker::Model;
 
 /// Of how many users and tables something is remembered at most.
 const MOST_PAIRS: usize = 4096;
+// With few pairs most needs would be looked up again.
+const _: () = prove!(MOST_PAIRS >= 1024);
 
 /// None of the four kinds.
 const NO_KINDS: Kinds = Kinds {

@@ -4,24 +4,97 @@
 //! transaction is executed once the versions that it reads are there, and what it writes are versions of its place. In the order
 //! of the log the versions that it reads are the newest.
 
-ghost use Rattle.std.specs.Prelude.{◌≡◌, ◌<◌, ◌≤◌, ◌+◌, ◌-◌, ◌++◌, IfOk, OnErr, OnOk, Some, length};
-ghost use Rattle.model_base.specs.Outcomes.{outcome};
+ghost use Rattle.std.specs.Prelude.{◌≡◌, ◌<◌, ◌≤◌, ◌+◌, ◌-◌, ◌++◌, ℕ, IfOk, OnErr, OnOk, Some, false, length, slice_get, true};
+ghost use Rattle.model_base.specs.declared.row.Key.{Key};
+ghost use Rattle.model_base.specs.declared.statement.Statement.{Statement as Judged};
+ghost use Rattle.model_base.specs.Outcomes.{outcome, rows_before};
+ghost use Rattle.model_base.specs.Rows.{Rows};
+ghost use Rattle.model_base.specs.Versions.{accesses_of};
+ghost use Rattle.body.specs.Shown.{WindowShows};
+ghost use Rattle.chains.specs.Store.{of_key, rows_at_end, versions_at};
+ghost use Rattle.grants_base.specs.Book.{cut_book};
 ghost use Rattle.engine.specs.Known.{AreKnown, AreNamed};
-ghost use Rattle.engine.specs.RunState.{IsRunState};
+ghost use Rattle.engine.specs.RunState.{IsBookState, IsRunState};
 ghost use Rattle.engine.specs.Running.{AddsFrom, HasRun, IsNextRange};
 
 use crate::booking::{create, creates, make_deeds};
+use crate::remembering::RememberingBook;
 use crate::state::RunState;
 use body::{BodyEnd, Window, run, shows_rows};
+use chains::Chains;
 use checker::Admission;
-use model_base::{Outcome, Place};
+use model_base::{MOST_ACCESSES, Outcome, Place, Statement};
 use sequencer::LogTail;
 use std::alloc::{AllocError, Global};
 use std::ops::Range;
 use workers::Gate;
 
-/// Runs a place over the state before it, which is then the one before the next place: it creates its table, or it is denied, or its body
-/// is run, and makes its deeds if it completes. On `Err`, out of memory.
+/// What a place results in over the rows and the grants before it, and whether its body completed: the window has the rows after it then.
+/// It creates its table, or is denied, or its body is run and makes its deeds. On `Err`, out of memory.
+#[inline(always)]
+fn judge(
+    alloc: Global,
+    chains: &Chains,
+    book: &mut RememberingBook,
+    window: &mut Window,
+    log: &LogTail,
+    place: Place,
+) -> Result<(Outcome, bool), AllocError>
+    requires kept { log.now.dropped ≤ place }
+    requires within { place < length log.now.log.statements }
+    requires known { AreKnown log.now.log.statements }
+    requires named { AreNamed log.now.log.statements }
+    requires stands { IsRunState log.now.log.statements place chains.now book.old }
+    ensures came { IfOk result (λ found. outcome log.now.log.statements place ≡ Some found.0) }
+    ensures booked { OnOk result (IsBookState log.now.log.statements (place + 1) book.new) }
+    ensures changed { IfOk result (λ found. found.1 ≡ true → (statement : Judged) → slice_get log.now.log.statements place ≡ Some statement
+        → WindowShows (accesses_of statement.form) window.new (rows_before log.now.log.statements (place + 1))) }
+    ensures same { IfOk result (λ found. found.1 ≡ false
+        → rows_before log.now.log.statements (place + 1) ≡ rows_before log.now.log.statements place) }
+    ensures cut { (first : ℕ) → first ≤ place → cut_book first book.new ≡ cut_book first book.old }
+{
+    let _len = log.len();
+    let statement = log.statement(place);
+    if creates(&statement.form) {
+        create(book, log, place, statement)?;
+        return Ok((Outcome::Created, false));
+    }
+    match book.admit(statement, place) {
+        Admission::Denied { need, cause } => Ok((Outcome::Denied { need, cause }, false)),
+        Admission::Admitted => {
+            shows_rows();
+            let _dropped = log.dropped();
+            let _mark = chains.mark();
+            chains.fill_window(statement, window);
+            match run(statement, window) {
+                BodyEnd::Completed => {
+                    // A window has a row for each access, which the contract of reading one gives.
+                    let _row = window.row(0);
+                    let deed = make_deeds(alloc, book, log, place, statement)?;
+                    let outputs = window.outputs();
+                    Ok((Outcome::Done { outputs, deed }, true))
+                }
+                BodyEnd::Aborted { step, reason } => Ok((Outcome::Aborted { step, reason }, false)),
+                BodyEnd::Undeclared { step } => Ok((Outcome::Undeclared { step }, false)),
+            }
+        }
+    }
+}
+
+/// Leaves in the window the rows after a place: those that it has, if the body completed, and else those before the place.
+#[inline(always)]
+fn show_rows_after(chains: &Chains, statement: &Statement, window: &mut Window, completed: bool)
+    requires { length (accesses_of statement.now.form) ≤ MOST_ACCESSES }
+    ensures { (rows : Rows) → (completed ≡ true → WindowShows (accesses_of statement.now.form) window.old rows)
+        → (completed ≡ false → rows_at_end chains.now ≡ rows) → WindowShows (accesses_of statement.now.form) window.new rows }
+{
+    if !completed {
+        chains.fill_window(statement, window);
+    }
+}
+
+/// Runs a place over the state before it, which is then the one before the next place. Whatever its outcome, it leaves a version for each
+/// write that it declares. On `Err`, out of memory.
 #[inline(always)]
 fn run_place(
     alloc: Global,
@@ -37,45 +110,17 @@ fn run_place(
     requires stands { IsRunState log.now.log.statements place state.old.chains state.old.book }
     ensures came { IfOk result (λ found. outcome log.now.log.statements place ≡ Some found) }
     ensures stands { OnOk result (IsRunState log.now.log.statements (place + 1) state.new.chains state.new.book) }
+    ensures versions { OnOk result ((key : Key) → of_key key state.new.chains.versions
+        ≡ of_key key (state.old.chains.versions ++ versions_at log.now.log.statements place)) }
     ensures adds { AddsFrom place state.old state.new }
 {
     let _len = log.len();
+    let _mark = state.chains.mark();
     let statement = log.statement(place);
-    if creates(&statement.form) {
-        create(&mut state.book, log, place, statement)?;
-        state.chains.pass();
-        return Ok(Outcome::Created);
-    }
-    match state.book.admit(statement, place) {
-        Admission::Denied { need, cause } => {
-            state.chains.pass();
-            Ok(Outcome::Denied { need, cause })
-        }
-        Admission::Admitted => {
-            shows_rows();
-            let _dropped = log.dropped();
-            let _mark = state.chains.mark();
-            state.chains.fill_window(statement, window);
-            match run(statement, window) {
-                BodyEnd::Completed => {
-                    // A window has a row for each access, which the contract of reading one gives.
-                    let _row = window.row(0);
-                    state.chains.put_place(statement.accesses(), window)?;
-                    let deed = make_deeds(alloc, &mut state.book, log, place, statement)?;
-                    let outputs = window.outputs();
-                    Ok(Outcome::Done { outputs, deed })
-                }
-                BodyEnd::Aborted { step, reason } => {
-                    state.chains.pass();
-                    Ok(Outcome::Aborted { step, reason })
-                }
-                BodyEnd::Undeclared { step } => {
-                    state.chains.pass();
-                    Ok(Outcome::Undeclared { step })
-                }
-            }
-        }
-    }
+    let (found, completed) = judge(alloc, &state.chains, &mut state.book, window, log, place)?;
+    show_rows_after(&state.chains, statement, window, completed);
+    state.chains.put_place(statement.accesses(), window)?;
+    Ok(found)
 }
 
 /// Runs the places of a range, one after another, and appends their outcomes; the state is the one before the range's end then. The gate is

@@ -1,8 +1,11 @@
 use Rattle.std.proofs.lemmas.List.{length-append}
 use Rattle.std.proofs.Common.{◌≡◌, ◌+◌, ◌++◌, ◌∷◌, [], ℕ, List, ap, ◌∙◌, subst, arith, append_assoc, length}
+use Rattle.std.specs.List.{flat_map, range_with_len}
 use Rattle.model_base.specs.declared.outcome.Outcome.{Outcome}
 use Rattle.engine.specs.RunState.{IsRunState}
-use Rattle.filling.proofs.Ranges.{outcomes_more}
+use Rattle.chains.specs.Store.{versions_at}
+use Rattle.chains.proofs.Keyed.{more-behind}
+use Rattle.filling.proofs.Ranges.{outcomes_more, versions_more}
 use Rattle.engine.proofs.Cutting.{cut_back}
 use Rattle.engine.proofs.Running.{adds-more}
 use Rattle.engine.proofs.in_order.run_in_order.Goals as goal
@@ -18,6 +21,11 @@ loop-index-preserved g c =
     let next : first + index + 1 ≡ first + (index + 1) = omega arith in
     record {
       stands = subst (λ (n : ℕ). IsRunState log n c.run_place.new.state.chains c.run_place.new.state.book) next c.in-Ok.ensures.stands;
+      versions = λ key.
+          more-behind key c.args.state.now.chains.versions c.loop-index.state.chains.versions c.run_place.new.state.chains.versions
+          (flat_map (versions_at log) (range_with_len first index)) (versions_at log (first + index))
+          (flat_map (versions_at log) (range_with_len first (index + 1))) (c.in-Ok.ensures.versions key) (invariant.versions key)
+          (versions_more log first index);
       adds = adds-more first (first + index) c.args.state.now c.loop-index.state c.run_place.new.state (omega arith) invariant.adds c.run_place.ensures.adds;
       came = (
         invariant.came.0 ++ one ∷ [],

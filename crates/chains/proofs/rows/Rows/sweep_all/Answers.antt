@@ -1,4 +1,4 @@
-use Rattle.std.proofs.Common.{◌≡◌, ◌+◌, rules, length, subst, sym, ◌∙◌, ap, arith}
+use Rattle.std.proofs.Common.{◌≡◌, ◌+◌, rules, length, refl, subst, sym, ◌∙◌, ap, arith}
 use Rattle.std.specs.Map.{lookup}
 use Rattle.body.specs.RowMap.{key_eq}
 use Rattle.indexmap.proofs.CallerLemmas.{filter-RetainsPairs}
@@ -14,14 +14,14 @@ use Rattle.chains.proofs.rows.Rows.sweep_all.Goals.{After-retain}
 passes : (c : After-retain) → c.retain.new.self.entries ≡ passing (is_alive c.args.mark) c.self.inside.newest.entries
 passes c = filter-RetainsPairs _ _ _ (λ k v b w g call. search rules) _ _ c.retain.ensures.filtered
 
-kept : (c : After-retain) → IsStoreKept (held_in c.self.inside.older.items c.self.inside.newest.entries) c.requires.0 c.args.mark c.requires.1
-kept c = subst (λ (held : Held). IsStoreKept held c.requires.0 c.args.mark c.requires.1) (sym c.self.view_is) c.requires.2
+kept : (c : After-retain) → IsStoreKept (held_in c.self.inside.older.items c.self.inside.newest.entries) c.requires.kept.0 c.args.mark c.requires.kept.1
+kept c = subst (λ (held : Held). IsStoreKept held c.requires.kept.0 c.args.mark c.requires.kept.1) (sym c.self.view_is) c.requires.kept.2
 
 backed : (c : After-retain) → AreBacked c.self.inside.older.items c.retain.new.self.entries
 backed c = record {
   distinct = c.retain.ensures.unique;
   backed = λ key none.
-      alive-backed c.args.mark c.requires.1 c.self.inside.older.items c.self.inside.newest.entries c.requires.0 c.self.invariant (kept c) key
+      alive-backed c.args.mark c.requires.kept.1 c.self.inside.older.items c.self.inside.newest.entries c.requires.kept.0 c.self.invariant (kept c) key
       (ap (lookup (key_eq key)) (sym (passes c)) ∙ none);
 }
 
@@ -31,7 +31,7 @@ left c key =
     let entries = c.self.inside.newest.entries in
     let older = c.self.inside.older.items in
     ap (λ es. of_key key (versions_in older es)) (passes c)
-    ∙ alive-left c.args.mark c.requires.1 older entries c.requires.0 c.self.invariant (kept c) (subst (AreBacked older) (passes c) (backed c)) key
+    ∙ alive-left c.args.mark c.requires.kept.1 older entries c.requires.kept.0 c.self.invariant (kept c) (subst (AreBacked older) (passes c) (backed c)) key
     ∙ ap (λ (held : Held). swept c.args.mark (of_key key held.versions)) c.self.view_is
 
 pub invariant_of-self : goal.invariant_of-self
@@ -49,7 +49,7 @@ returns c =
     let writes : new.replacing ≡ old.replacing = ap (λ (held : Held). held.replacing) c.self.view_is in
     let count : length (versions_in older entries) + length c.retain.new.self.entries ≡ length new.versions + length entries =
     subst (λ es. length (versions_in older entries) + length es ≡ length (versions_in older es) + length entries) (sym (passes retained))
-    (alive-count mark c.requires.1 older entries c.requires.0 c.self.invariant (kept retained)) in
+    (alive-count mark c.requires.kept.1 older entries c.requires.kept.0 c.self.invariant (kept retained)) in
     record {
       left = left retained;
       newest = left-newest mark old new is_left;
@@ -57,5 +57,6 @@ returns c =
       noted = λ absent end kept key.
           kept-noted mark end new absent (left-kept mark old new is_left absent end writes kept) key
           (ap (is_spent mark) (left retained key) ∙ swept-alive mark (of_key key old.versions));
+      whole = refl;
       gone = omega (arith, count, ap (λ (held : Held). length held.versions) c.self.view_is, c.retain.ensures.bound, c.len-before.ensures);
     }

@@ -31,23 +31,29 @@ loop-index-preserved c =
       cut = λ first least. put.cut first least ∙ invariant.cut first least;
     }
 
+-- each key's versions are the old ones and those of the place
+pub returns-clause-versions : goal.returns-clause-versions
+returns-clause-versions c = λ key.
+    let accesses = c.args.accesses.now in
+    let here : c.self.inside.end ≡ c.args.self.now.end = ap (λ (store : Store). store.end) c.self.view_is in
+    let all : take c.loop-index.index accesses ≡ accesses = take_all c.loop-index.index accesses (omega (arith, c.loop-index-test.false)) in
+    c.loop-index.invariant.added key
+    ∙ (λ i. of_key key ((c.pass.ensures i).versions ++ versions_by (here i) (all i) c.args.window.now.rows))
+
 pub returns-clause-ok : goal.returns-clause-ok
 returns-clause-ok c =
     let old = c.args.self.now in
-    let accesses = c.args.accesses.now in
-    let rows = c.args.window.now.rows in
     let invariant = c.loop-index.invariant in
     let here : c.self.inside.end ≡ old.end = ap (λ (store : Store). store.end) c.self.view_is in
-    let all : take c.loop-index.index accesses ≡ accesses = take_all c.loop-index.index accesses (omega (arith, c.loop-index-test.false)) in
-    let passed = c.pass.ensures.store in
-    let mark : c.loop-index.self.mark ≡ old.mark = invariant.mark ∙ ap (λ (store : Store). store.mark) passed in
+    let mark : c.loop-index.self.mark ≡ old.mark = invariant.mark ∙ ap (λ (store : Store). store.mark) c.pass.ensures in
     let end : c.loop-index.self.end ≡ old.end + 1 = invariant.end ∙ ap (λ (n : ℕ). n + 1) here in
+    let left = versions_by old.end c.args.accesses.now c.args.window.now.rows in
     let ordered : (key : Key) → AreBetween 0 old.end (of_key key old.versions) =
     subst (λ (store : Store). (key : Key) → AreBetween 0 store.end (of_key key store.versions)) c.self.view_is c.self.invariant.0.ordered in
-    subst (λ (store : Store). Gains old store (versions_by old.end accesses rows) (old.end + 1))
+    subst (λ (store : Store). Gains old store left (old.end + 1))
     (λ i. record { versions = c.loop-index.self.versions; mark = sym mark i; end = sym end i })
-    (append-gains old c.loop-index.self.versions (versions_by old.end accesses rows) (old.end + 1) ordered (by-between old.end accesses rows)
-    (λ key. invariant.added key ∙ (λ i. of_key key ((passed i).versions ++ versions_by (here i) (all i) rows))))
+    (append-gains old c.loop-index.self.versions left (old.end + 1) ordered (by-between old.end c.args.accesses.now c.args.window.now.rows)
+    (returns-clause-versions c))
 
 pub returns-clause-right : goal.returns-clause-right
 returns-clause-right c = λ log are right.

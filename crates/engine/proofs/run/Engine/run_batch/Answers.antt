@@ -7,6 +7,7 @@ returns-clause-runs g c =
       ends = runs.ends;
       stands = runs.stands;
       came = runs.came;
+      versions = runs.versions;
       mark = runs.mark;
       log = runs.log;
       dropped = runs.dropped;
