@@ -12,13 +12,15 @@ use Rattle.bohm_base.specs.declared.collecting.LineOutcome.{LineOutcome}
 use Rattle.engine.specs.Engine.{Run, finished}
 use Rattle.batched_text.specs.Batching.{Deals, IsCounted, IsFilling, IsFresh, IsOpen, ReportsAll, ReportsFirst, ReportsLines, Takes}
 use Rattle.batched_text.specs.History.{IsCutBy, IsTrimmedBy}
-use Rattle.batched_text.specs.Settings.{IsCut, IsTrimmed, are_within_limits, mark_behind}
+use Rattle.batched_text.specs.Settings.{IsCut, IsCutEarly, IsTrimmed, are_within_limits, mark_behind}
+use Rattle.batched_text.specs.Sweeping.{IsSwept}
 use Rattle.batched_text.specs.declared.batching.Batching.{Batching}
-use Rattle.batched_text.specs.declared.history.History.{History}
+use Rattle.batched_text.specs.declared.history.Cut.{Cut}
 use Rattle.batched_text.specs.declared.history.Plan.{Plan}
 use Rattle.batched_text.specs.declared.settings.Settings.{Settings}
 use Rattle.batched_text.proofs.Ended.{counted_more, counted_start, one_more}
 use Rattle.batched_text.proofs.Histories.{kept_first, kept_longer}
+use Rattle.batched_text.proofs.Sweeping.{swept_first}
 
 -- the mark by the number of batches that are kept
 abbrev mark_by : ℕ → ℕ → ℕ → ℕ → ℕ
@@ -37,15 +39,11 @@ mark_later (suc keep) batch batches start end mark less is at =
     let here : mark ≡ batch * batches - batch * suc keep = at ∙ mul-sub batch batches (suc keep) in
     omega (arith, some-kept keep batch start end)
 
--- the mark of a longer batch isn't earlier
-mark_longer : (keep batch start end : ℕ) → start ≤ end → mark_by keep batch start start ≤ mark_by keep batch start end
-mark_longer zero batch start end less = omega arith
-mark_longer (suc keep) batch start end less = omega (arith, some-kept keep batch start start, some-kept keep batch start end)
-
--- the mark after a batch isn't later than that of none after it
-mark_after : (keep batch start end : ℕ) → start ≤ end → mark_by keep batch start end ≤ mark_by keep batch end end
-mark_after zero batch start end less = omega arith
-mark_after (suc keep) batch start end less = omega (arith, some-kept keep batch start end, some-kept keep batch end end)
+-- the mark after a later batch isn't earlier
+mark_order : (keep batch start end start_2 end_2 : ℕ) → start ≤ start_2 → end ≤ end_2 → mark_by keep batch start end ≤ mark_by keep batch start_2 end_2
+mark_order zero batch start end start_2 end_2 less within = omega (arith, within)
+mark_order (suc keep) batch start end start_2 end_2 less within =
+    omega (arith, less, some-kept keep batch start end, some-kept keep batch start_2 end_2)
 
 -- one more batch, which is full
 pub mark_full : (keep batch batches start : ℕ) → start ≡ batch * batches → mark_by keep batch start (start + batch) ≡ batch * ((batches + 1) - keep)
@@ -97,26 +95,26 @@ limits settings within =
     }
 
 -- the store's mark is none that lies too late for the next batch
-mark_so_far : (history : History) (settings : Settings) (run : Run) → IsCutBy history settings run → finished run ≤ length run.log.statements
+mark_so_far : (cut : Cut) (settings : Settings) (run : Run) → IsCutBy cut settings run → finished run ≤ length run.log.statements
     → run.store.mark ≤ mark_behind settings (finished run) (length run.log.statements)
-mark_so_far History.Kept settings run cut less =
-    mark_later settings.keep settings.batch cut.batches (finished run) (length run.log.statements) run.store.mark less cut.full cut.mark
-mark_so_far History.Dropped settings run cut less =
-    omega (arith, cut, mark_longer settings.keep settings.batch (finished run) (length run.log.statements) less)
+mark_so_far Cut.WhenFull settings run is less =
+    mark_later settings.keep settings.batch is.batches (finished run) (length run.log.statements) run.store.mark less is.full is.mark
+mark_so_far Cut.BeforeReads settings run is less =
+    omega (arith, is.most, mark_order settings.keep settings.batch (finished run - 1) (finished run) (finished run) (length run.log.statements) (omega arith) less)
 
 pub waits_for : (plan : Plan) (batching : Batching) → IsFilling plan batching
     → batching.engine.store.mark ≤ mark_behind plan.settings (finished batching.engine) (length batching.engine.log.statements)
-waits_for plan batching filling = mark_so_far plan.history plan.settings batching.engine filling.cut (omega (arith, filling.counted))
+waits_for plan batching filling = mark_so_far plan.cut plan.settings batching.engine filling.cut (omega (arith, filling.counted))
 
 -- a batch may end: it is full, or may end early
-abbrev pub IsDue : History → Settings → Run → Type 0
-IsDue History.Kept settings run = finished run + settings.batch ≤ length run.log.statements
-IsDue History.Dropped settings run = Unit {0}
+abbrev pub IsDue : Cut → Settings → Run → Type 0
+IsDue Cut.WhenFull settings run = finished run + settings.batch ≤ length run.log.statements
+IsDue Cut.BeforeReads settings run = Unit {0}
 
-pub due : (history : History) (settings : Settings) (run : Run) (waiting : ℕ) → settings.batch ≤ waiting
-    → waiting + finished run ≡ length run.log.statements → IsDue history settings run
-due History.Dropped settings run waiting full all = tt
-due History.Kept settings run waiting full all = omega (arith, full, all)
+pub due : (cut : Cut) (settings : Settings) (run : Run) (waiting : ℕ) → settings.batch ≤ waiting
+    → waiting + finished run ≡ length run.log.statements → IsDue cut settings run
+due Cut.BeforeReads settings run waiting full all = tt
+due Cut.WhenFull settings run waiting full all = omega (arith, full, all)
 
 module _ (plan : Plan) (old new : Batching) (reported : ReportsAll plan old new) where
   abbrev count : ℕ
@@ -135,10 +133,41 @@ module _ (plan : Plan) (old new : Batching) (reported : ReportsAll plan old new)
       reported.mark
       ∙ ap (λ (b : Bool). if b then mark_behind plan.settings (finished old.engine) count else old.engine.store.mark) (le-ltb (finished old.engine) count none)
 
-  -- the cut after one more batch
-  cut_next : (history : History) → IsCutBy history plan.settings old.engine → finished old.engine ≤ count → count ≤ finished old.engine + plan.settings.batch
-      → 0 < plan.settings.batch → IsDue history plan.settings old.engine → IsCutBy history plan.settings new.engine
-  cut_next History.Kept cut within most some full =
+  -- the cut after one more batch, which may have ended early
+  early_more : IsCutEarly plan.settings old.engine → count ≤ finished old.engine + plan.settings.batch → finished old.engine < count
+      → IsCutEarly plan.settings new.engine
+  early_more cut most more =
+      let keep : ℕ = plan.settings.keep in
+      let batch : ℕ = plan.settings.batch in
+      let start : ℕ = finished old.engine in
+      let least : mark_behind plan.settings (finished new.engine - batch) (finished new.engine) ≡ mark_behind plan.settings (count - batch) count =
+      ap (λ (n : ℕ). mark_behind plan.settings (n - batch) n) reported.all in
+      let last : mark_behind plan.settings (finished new.engine - 1) (finished new.engine) ≡ mark_behind plan.settings (count - 1) count =
+      ap (λ (n : ℕ). mark_behind plan.settings (n - 1) n) reported.all in
+      record {
+        least = omega (arith, least, marked more, mark_order keep batch (count - batch) count start count (omega (arith, most)) (omega arith));
+        most = omega (arith, last, marked more, mark_order keep batch start count (count - 1) count (omega (arith, more)) (omega arith));
+      }
+
+  early_none : IsCutEarly plan.settings old.engine → count ≡ finished old.engine → IsCutEarly plan.settings new.engine
+  early_none cut none =
+      let same : finished new.engine ≡ finished old.engine = reported.all ∙ none in
+      let mark : new.engine.store.mark ≡ old.engine.store.mark = unmarked (omega (arith, none)) in
+      let least = ap (λ (n : ℕ). mark_behind plan.settings (n - plan.settings.batch) n) same in
+      let last = ap (λ (n : ℕ). mark_behind plan.settings (n - 1) n) same in
+      record { least = omega (arith, least, mark, cut.least); most = omega (arith, last, mark, cut.most) }
+
+  cut_early : IsCutEarly plan.settings old.engine → finished old.engine ≤ count → count ≤ finished old.engine + plan.settings.batch
+      → IsCutEarly plan.settings new.engine
+  cut_early cut within most =
+      elim (cases_lt (finished old.engine) count) [
+        | inl more ↦ early_more cut most more
+        | inr none ↦ early_none cut (omega (arith, none, within))
+      ]
+
+  cut_next : (by : Cut) → IsCutBy by plan.settings old.engine → finished old.engine ≤ count → count ≤ finished old.engine + plan.settings.batch
+      → 0 < plan.settings.batch → IsDue by plan.settings old.engine → IsCutBy by plan.settings new.engine
+  cut_next Cut.WhenFull cut within most some full =
       let whole : count ≡ finished old.engine + plan.settings.batch = omega (arith, most, full) in
       record {
         batches = cut.batches + 1;
@@ -146,19 +175,10 @@ module _ (plan : Plan) (old new : Batching) (reported : ReportsAll plan old new)
         mark = marked (omega (arith, some, full)) ∙ ap (mark_behind plan.settings (finished old.engine)) whole
             ∙ mark_full plan.settings.keep plan.settings.batch cut.batches (finished old.engine) cut.full;
       }
-  cut_next History.Dropped cut within most some may =
-      let there : mark_behind plan.settings (finished new.engine) (finished new.engine) ≡ mark_behind plan.settings count count =
-      ap (λ (n : ℕ). mark_behind plan.settings n n) reported.all in
-      elim (cases_lt (finished old.engine) count) [
-        | inl more ↦ omega (arith, marked more, there, mark_after plan.settings.keep plan.settings.batch (finished old.engine) count within)
-        | inr none ↦
-            let here : mark_behind plan.settings count count ≡ mark_behind plan.settings (finished old.engine) (finished old.engine) =
-            (let same : count ≡ finished old.engine = omega (arith, none, within) in ap (λ (n : ℕ). mark_behind plan.settings n n) same) in
-            omega (arith, unmarked none, cut, there, here)
-      ]
+  cut_next Cut.BeforeReads cut within most some may = cut_early cut within most
 
   -- the next batch, after one that is due
-  open_next : IsFilling plan old → IsDue plan.history plan.settings old.engine → IsOpen plan new
+  open_next : IsFilling plan old → IsDue plan.cut plan.settings old.engine → IsOpen plan new
   open_next filling due =
       let some : 0 < plan.settings.batch = (limits plan.settings filling.within).batch_some in
       record {
@@ -168,7 +188,8 @@ module _ (plan : Plan) (old new : Batching) (reported : ReportsAll plan old new)
           counted = subst (λ (ls : List LineOutcome). IsCounted new.engine ls) (sym reported.left) (omega (arith, counts, reported.all));
           few = subst (λ (ls : List LineOutcome). length ls < new.number) (sym reported.left) (omega (arith, filling.few, reported.number));
           kept = reported.kept;
-          cut = cut_next plan.history filling.cut (omega (arith, filling.counted)) filling.most some due;
+          cut = cut_next plan.cut filling.cut (omega (arith, filling.counted)) filling.most some due;
+          swept = reported.swept;
           most = omega (arith, counts, reported.all);
         };
         less = omega (arith, counts, reported.all, some);
@@ -195,21 +216,21 @@ module _ (plan : Plan) (old new : Batching) (reported : ReportsAll plan old new)
             ∙ ap (λ (n : ℕ). min n (plan.settings.batch * (cut.batches - plan.settings.keep))) (sym same);
       }
 
-  trimmed_by : (history : History) → IsCutBy history plan.settings old.engine → finished old.engine ≤ count → count ≤ finished old.engine + plan.settings.batch
-      → 0 < plan.settings.batch → IsTrimmedBy history plan.settings new.engine
-  trimmed_by History.Kept cut within most some =
+  trimmed_by : (by : Cut) → IsCutBy by plan.settings old.engine → finished old.engine ≤ count → count ≤ finished old.engine + plan.settings.batch
+      → 0 < plan.settings.batch → IsTrimmedBy by plan.settings new.engine
+  trimmed_by Cut.WhenFull cut within most some =
       elim (cases_lt (finished old.engine) count) [
         | inl more ↦ trimmed_last cut most more
         | inr none ↦ trimmed_none cut some (omega (arith, none, within))
       ]
-  trimmed_by History.Dropped cut within most some = tt
+  trimmed_by Cut.BeforeReads cut within most some = cut_early cut within most
 
-  pub trimmed_all : IsFilling plan old → IsTrimmedBy plan.history plan.settings new.engine
+  pub trimmed_all : IsFilling plan old → IsTrimmedBy plan.cut plan.settings new.engine
   trimmed_all filling =
-      trimmed_by plan.history filling.cut (omega (arith, filling.counted)) filling.most (limits plan.settings filling.within).batch_some
+      trimmed_by plan.cut filling.cut (omega (arith, filling.counted)) filling.most (limits plan.settings filling.within).batch_some
 
   -- all lines that waited are reported
-  pub reports_all : IsFilling plan old → IsDue plan.history plan.settings old.engine → ReportsFirst plan old new
+  pub reports_all : IsFilling plan old → IsDue plan.cut plan.settings old.engine → ReportsFirst plan old new
   reports_all filling due = record {
     log = reported.log;
     number = reported.number;
@@ -224,10 +245,10 @@ module _ (plan : Plan) (old new : Batching) (reported : ReportsAll plan old new)
     room = open_next filling due;
   }
 
--- where nothing is kept a batch may end before it is full
-pub reports_early : (plan : Plan) (old new : Batching) → IsFilling plan old → plan.history ≡ History.Dropped → ReportsAll plan old new → ReportsFirst plan old new
-reports_early plan old new filling dropped reported =
-    reports_all plan old new reported filling (subst (λ (history : History). IsDue history plan.settings old.engine) (sym dropped) tt)
+-- where batches end before reads one may end before it is full
+pub reports_early : (plan : Plan) (old new : Batching) → IsFilling plan old → plan.cut ≡ Cut.BeforeReads → ReportsAll plan old new → ReportsFirst plan old new
+reports_early plan old new filling early reported =
+    reports_all plan old new reported filling (subst (λ (cut : Cut). IsDue cut plan.settings old.engine) (sym early) tt)
 
 -- none is reported
 pub reports_none : (plan : Plan) (batching : Batching) → IsOpen plan batching → ReportsFirst plan batching batching
@@ -246,9 +267,9 @@ reports_none plan batching room = record {
 }
 
 -- more statements change nothing of what is finished
-cut_longer : (history : History) (settings : Settings) (run : Run) (log : Accepted) → IsCutBy history settings run → IsCutBy history settings (record run { log = log })
-cut_longer History.Kept settings run log cut = record { batches = cut.batches; full = cut.full; mark = cut.mark }
-cut_longer History.Dropped settings run log cut = cut
+cut_longer : (by : Cut) (settings : Settings) (run : Run) (log : Accepted) → IsCutBy by settings run → IsCutBy by settings (record run { log = log })
+cut_longer Cut.WhenFull settings run log cut = record { batches = cut.batches; full = cut.full; mark = cut.mark }
+cut_longer Cut.BeforeReads settings run log cut = record { least = cut.least; most = cut.most }
 
 -- a line that was taken fills the batch by one statement at most
 pub filled : (plan : Plan) (old new : Batching) (reading : ParsedLine) → IsOpen plan old → Takes reading old new → IsWhole new.engine.log → IsFilling plan new
@@ -262,7 +283,8 @@ filled plan old new reading room takes whole =
       counted = counted_more old new reading was.counted takes;
       few = omega (arith, was.few, takes.number, ap length takes.waiting, length-append old.waiting.items (line ∷ []));
       kept = kept_longer plan.history old.engine new.engine (ap (λ (run : Run). run.dropped) takes.engine) (ap finished takes.engine) was.kept;
-      cut = subst (IsCutBy plan.history plan.settings) (sym takes.engine) (cut_longer plan.history plan.settings old.engine (with_reading log reading) was.cut);
+      cut = subst (IsCutBy plan.cut plan.settings) (sym takes.engine) (cut_longer plan.cut plan.settings old.engine (with_reading log reading) was.cut);
+      swept = subst IsSwept (sym (ap (λ (run : Run). run.store) takes.engine)) was.swept;
       most = subst (λ (run : Run). length run.log.statements ≤ finished run + plan.settings.batch) (sym takes.engine)
           (omega (arith, room.less, one_more log.names reading, length-append log.statements (accepted log.names reading)));
     }
@@ -285,8 +307,12 @@ dealt plan reading old taken new takes put =
     }
 
 -- before the first batch
-cut_first : (history : History) (settings : Settings) (batching : Batching) → IsFresh batching → IsCutBy history settings batching.engine
-cut_first History.Kept settings batching first =
+none_behind : (keep batch : ℕ) → mark_by keep batch 0 0 ≡ 0
+none_behind zero batch = refl
+none_behind (suc keep) batch = omega (arith, some-kept keep batch 0 0)
+
+cut_first : (by : Cut) (settings : Settings) (batching : Batching) → IsFresh batching → IsCutBy by settings batching.engine
+cut_first Cut.WhenFull settings batching first =
     record { batches = 0; full = omega (arith, first.none); mark = first.mark ∙ sym (nothing settings.batch settings.keep) }
   where
     nothing : (batch keep : ℕ) → batch * (0 - keep) ≡ 0
@@ -294,7 +320,13 @@ cut_first History.Kept settings batching first =
         let none : 0 - keep ≡ 0 = omega arith in
         let zero-times : batch * 0 ≡ 0 = omega arith in
         ap (λ (n : ℕ). batch * n) none ∙ zero-times
-cut_first History.Dropped settings batching first = omega (arith, first.mark)
+cut_first Cut.BeforeReads settings batching first =
+    let no_mark : mark_behind settings 0 0 ≡ 0 = none_behind settings.keep settings.batch in
+    let least : mark_behind settings (finished batching.engine - settings.batch) (finished batching.engine) ≡ mark_behind settings (0 - settings.batch) 0 =
+    ap (λ (n : ℕ). mark_behind settings (n - settings.batch) n) first.none in
+    let earlier : mark_behind settings (0 - settings.batch) 0 ≤ mark_behind settings 0 0 =
+    mark_order settings.keep settings.batch (0 - settings.batch) 0 0 0 (omega arith) (omega arith) in
+    record { least = omega (arith, least, earlier, no_mark); most = omega (arith, first.mark) }
 
 -- at first
 pub open_first : (plan : Plan) (batching : Batching) → are_within_limits plan.settings ≡ true → IsFresh batching → IsOpen plan batching
@@ -307,7 +339,8 @@ open_first plan batching within first =
         counted = counted_start batching.engine batching.waiting.items first.log first.none first.nobody;
         few = omega (arith, ap length first.nobody, first.number);
         kept = kept_first plan.history batching.engine first.kept first.none;
-        cut = cut_first plan.history plan.settings batching first;
+        cut = cut_first plan.cut plan.settings batching first;
+        swept = swept_first batching.engine.store first.mark;
         most = omega (arith, none);
       };
       less = omega (arith, none, (limits plan.settings within).batch_some);

@@ -3,6 +3,7 @@ use Rattle.std.proofs.Common.{◌≡◌, List, [], subst, sym, ◌∙◌}
 use Rattle.bohm_base.specs.declared.collecting.LineOutcome.{LineOutcome}
 use Rattle.engine.specs.Engine.{Run, finished}
 use Rattle.batched_text.specs.History.{KeepsAll, NoneWait, dropped_by}
+use Rattle.batched_text.specs.declared.history.Cut.{Cut}
 use Rattle.batched_text.specs.declared.history.History.{History}
 
 -- at first none are, and none are finished
@@ -21,10 +22,10 @@ keeps_all History.Kept old new same kept = same ∙ kept
 keeps_all History.Dropped old new same kept = tt
 
 -- where no line waits, none does
-pub none_wait : (history : History) (waiting : List LineOutcome) → waiting ≡ [] → NoneWait history waiting
-none_wait History.Kept waiting none = tt
-none_wait History.Dropped waiting none = none
+pub none_wait : (cut : Cut) (waiting : List LineOutcome) → waiting ≡ [] → NoneWait cut waiting
+none_wait Cut.WhenFull waiting none = tt
+none_wait Cut.BeforeReads waiting none = none
 
--- where all is kept, lines may wait
-pub may_wait : (history : History) (waiting : List LineOutcome) → history ≡ History.Kept → NoneWait history waiting
-may_wait history waiting kept = subst (λ (h : History). NoneWait h waiting) (sym kept) tt
+-- where batches are full, lines may wait
+pub may_wait : (cut : Cut) (waiting : List LineOutcome) → cut ≡ Cut.WhenFull → NoneWait cut waiting
+may_wait cut waiting full = subst (λ (c : Cut). NoneWait c waiting) (sym full) tt

@@ -1,4 +1,5 @@
 pub mod Histories
+pub mod Sweeping
 pub mod PlacesTold
 pub mod Reports
 pub mod LaterNames

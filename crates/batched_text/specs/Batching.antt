@@ -15,6 +15,7 @@ use Rattle.batched_text.specs.Places.{places_in}
 use Rattle.batched_text.specs.History.{IsCutBy, IsTrimmedBy, dropped_by}
 use Rattle.batched_text.specs.ReadBytes.{IfRead}
 use Rattle.batched_text.specs.Settings.{are_within_limits, mark_behind}
+use Rattle.batched_text.specs.Sweeping.{IsSwept}
 use Rattle.batched_text.specs.declared.batching.Batching.{Batching}
 use Rattle.batched_text.specs.declared.history.Plan.{Plan}
 
@@ -53,14 +54,15 @@ pub record Deals (reading : ParsedLine) (old new : Batching) : Type 0 where
       new.waiting.items new.number old.pending.items new.pending.items
 
 -- the lines that wait are counted, what is finished is kept or dropped as it is to be, the batches that are finished are full, but
--- where nothing is kept, and the next one isn't larger than a batch may be
+-- where they may end early, no rows are kept but those that are to be, and the next batch isn't larger than one may be
 pub record IsFilling (plan : Plan) (batching : Batching) : Type 0 where
   pub within : are_within_limits plan.settings ≡ true
   pub whole : IsWhole batching.engine.log
   pub counted : IsCounted batching.engine batching.waiting.items
   pub few : length batching.waiting.items < batching.number
   pub kept : batching.engine.dropped ≡ dropped_by plan.history batching.engine
-  pub cut : IsCutBy plan.history plan.settings batching.engine
+  pub cut : IsCutBy plan.cut plan.settings batching.engine
+  pub swept : IsSwept batching.engine.store
   pub most : length batching.engine.log.statements ≤ finished batching.engine + plan.settings.batch
 
 -- and it is smaller
@@ -77,8 +79,8 @@ pub record ReportsFirst (plan : Plan) (old new : Batching) : Type 0 where
       old.number old.pending.items new.pending.items
   pub room : IsOpen plan new
 
--- all lines that waited were reported after what was pending: their places were run as a batch, the rows trimmed after it if it has a
--- place, and what is finished is kept or dropped as it is to be
+-- all lines that waited were reported after what was pending: their places were run as a batch, the rows trimmed and swept after it if it
+-- has a place, and what is finished is kept or dropped as it is to be
 pub record ReportsAll (plan : Plan) (old new : Batching) : Type 0 where
   pub log : new.engine.log ≡ old.engine.log
   pub number : new.number ≡ old.number
@@ -91,6 +93,7 @@ pub record ReportsAll (plan : Plan) (old new : Batching) : Type 0 where
       ≡ (if nat_lt (finished old.engine) (length old.engine.log.statements)
       then mark_behind plan.settings (finished old.engine) (length old.engine.log.statements)
       else old.engine.store.mark)
+  pub swept : IsSwept new.engine.store
   pub kept : new.engine.dropped ≡ dropped_by plan.history new.engine
 
 -- a fault of a batch, after which what was pending is
@@ -216,10 +219,11 @@ abbrev pub IsLogOfText : Option (List ℕ) → Accepted → Type 0
 IsLogOfText None log = ⊤
 IsLogOfText (Some input) log = (lines : List LineOutcome) × Collects input log lines
 
--- the text was run: its log is finished, the rows before the last few batches aren't kept, and what is finished is kept or dropped as it is
--- to be
+-- the text was run: its log is finished, the rows before the last few batches aren't kept, no versions but those that rows come from are,
+-- and what is finished is kept or dropped as it is to be
 pub record HasRunText (plan : Plan) (input : Option (List ℕ)) (run : Run) : Type 0 where
   pub log : IsLogOfText input run.log
   pub all : finished run ≡ length run.log.statements
-  pub trimmed : IsTrimmedBy plan.history plan.settings run
+  pub trimmed : IsTrimmedBy plan.cut plan.settings run
+  pub swept : IsSwept run.store
   pub kept : run.dropped ≡ dropped_by plan.history run

@@ -1,5 +1,6 @@
 pub mod Settings
 pub mod History
+pub mod Sweeping
 pub mod Places
 pub mod ReadBytes
 pub mod Batching

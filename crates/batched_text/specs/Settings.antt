@@ -26,7 +26,13 @@ pub record IsCut (settings : Settings) (run : Run) : Type 0 where
   pub full : finished run ≡ settings.batch * batches
   pub mark : run.store.mark ≡ settings.batch * (batches - settings.keep)
 
--- so it is, but the last batch may be smaller
+-- batches are finished of which any may be smaller, the last one with at least one place: rows are kept before the places of the last few,
+-- but not before more places than so many full batches have
+pub record IsCutEarly (settings : Settings) (run : Run) : Type 0 where
+  pub least : mark_behind settings (finished run - settings.batch) (finished run) ≤ run.store.mark
+  pub most : run.store.mark ≤ mark_behind settings (finished run - 1) (finished run)
+
+-- so it is where each is as large as it may be, but the last batch may be smaller
 pub record IsTrimmed (settings : Settings) (run : Run) : Type 0 where
   pub batches : ℕ
   pub most : finished run ≤ settings.batch * batches

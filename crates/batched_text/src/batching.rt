@@ -4,6 +4,7 @@ ghost use Rattle.std.specs.Prelude.{◌≡◌, ◌≤◌, IfErr, OnOk};
 ghost use Rattle.engine.specs.Engine.{finished};
 ghost use Rattle.batched_text.specs.Batching.{IsFaultOfBatch, IsFilling, ReportsAll, ReportsFirst};
 ghost use Rattle.batched_text.specs.History.{KeepsAll, dropped_by};
+ghost use Rattle.batched_text.specs.Sweeping.{IsSwept};
 
 use crate::history::History;
 use crate::reporting::put_lines;
@@ -57,11 +58,12 @@ impl Batching {
     }
 }
 
-/// Trims the rows to the mark.
+/// Trims the rows to the mark, and sweeps out what says nothing.
 pub(crate) fn trim_to(engine: &mut Engine, mark: Place)
     requires order { engine.old.store.mark ≤ mark }
     requires within { mark ≤ finished engine.old }
     ensures mark { engine.new.store.mark ≡ mark }
+    ensures swept { IsSwept engine.new.store }
     ensures rest { engine.new ≡ record engine.old { store = engine.new.store } }
 {
     let _dropped = engine.trim(mark);

@@ -9,7 +9,7 @@ ghost use Rattle.batched_text.specs.Foretold.{IsReadyAt, Runs, TakesAt, WasReadA
 
 use crate::batching::{Batching, report_batch, report_full};
 use crate::buffered::Buffered;
-use crate::history::History;
+use crate::history::Cut;
 use crate::lines::take_line;
 use crate::runner::Runner;
 use bohm_base::{EngineFault, LineOutcome};
@@ -194,7 +194,7 @@ fn report_each<'a, T: Threads + Wait + Sync>(
 }
 
 /// Deals with lines that were read ahead, as `report_each`, as many at a time as a batch has places. Then it reports the lines that wait,
-/// unless all is kept, and gives back what was dropped: a statement stays with its line but for that time. So what a piece's statements
+/// unless batches are full, and gives back what was dropped: a statement stays with its line but for that time. So what a piece's statements
 /// hold lies in memory in the order in which it is read and filled again.
 pub(crate) fn report_foretold<'a, T: Threads + Wait + Sync>(
     runner: &Runner<T>,
@@ -212,9 +212,9 @@ pub(crate) fn report_foretold<'a, T: Threads + Wait + Sync>(
     let mut at = from;
     'groups: for group in lines.chunks_mut(runner.plan.settings.batch as usize) {
         at = report_each(runner, batching, buffered, group, at, raw)?;
-        match runner.plan.history {
-            History::Kept => {}
-            History::Dropped => report_batch(runner, batching)?,
+        match runner.plan.cut {
+            Cut::WhenFull => {}
+            Cut::BeforeReads => report_batch(runner, batching)?,
         }
         give_back(&mut batching.engine, group);
     }

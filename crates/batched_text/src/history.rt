@@ -1,6 +1,6 @@
-//! Whether what is finished is kept.
+//! Whether what is finished is kept, and where batches end.
 
-use crate::settings::Settings;
+use crate::settings::{Arrival, Settings};
 
 /// Whether the statements and outcomes of finished places are kept for those who look at them later.
 #[derive(Clone, Copy)]
@@ -11,9 +11,34 @@ pub(crate) enum History {
     Dropped,
 }
 
-/// How a log is run in batches, and what is kept of them.
+/// Where batches end, beside the end of the input.
+#[derive(Clone, Copy)]
+pub(crate) enum Cut {
+    /// Where they are full.
+    WhenFull,
+    /// Also where no whole line is available, before the reader is asked: no line waits meanwhile.
+    BeforeReads,
+}
+
+impl Cut {
+    ghost use Rattle.std.specs.Prelude.{◌≡◌};
+    ghost use Rattle.batched_text.specs.History.{cut_for};
+
+    /// Where the batches of a log end whose bytes arrive so.
+    pub(crate) fn of(arrival: Arrival) -> Self
+        ensures { result ≡ cut_for arrival }
+    {
+        match arrival {
+            Arrival::Live => Cut::BeforeReads,
+            Arrival::Stored => Cut::WhenFull,
+        }
+    }
+}
+
+/// How a log is run in batches, what is kept of them, and where they end.
 #[derive(Clone, Copy)]
 pub(crate) struct Plan {
     pub(crate) settings: Settings,
     pub(crate) history: History,
+    pub(crate) cut: Cut,
 }

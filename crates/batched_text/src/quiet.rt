@@ -4,6 +4,7 @@ ghost use Rattle.std.specs.Prelude.{◌≡◌, ◌<◌, OnOk, length};
 ghost use Rattle.report.specs.Report.{ParsedLine};
 ghost use Rattle.bohm_base.specs.Collecting.{ReadsAs, with_reading};
 ghost use Rattle.engine.specs.Engine.{finished};
+ghost use Rattle.batched_text.specs.Sweeping.{IsSwept};
 
 use crate::batching::trim_to;
 use crate::lines::take_text;
@@ -36,6 +37,7 @@ fn run_next(alloc: Global, engine: &mut Engine) -> Result<(), AllocError>
     requires { finished engine.old < length engine.old.log.statements }
     ensures more { OnOk result (finished engine.old < finished engine.new) }
     ensures mark { OnOk result (engine.new.store.mark ≡ finished engine.new) }
+    ensures swept { OnOk result (IsSwept engine.new.store) }
     ensures log { engine.new.log ≡ engine.old.log }
     ensures dropped { engine.new.dropped ≡ engine.old.dropped }
 {
@@ -48,8 +50,10 @@ fn run_next(alloc: Global, engine: &mut Engine) -> Result<(), AllocError>
 
 /// Runs the places that wait.
 pub(crate) fn run_rest(alloc: Global, engine: &mut Engine) -> Result<(), AllocError>
-    requires { engine.old.store.mark ≡ finished engine.old }
+    requires mark { engine.old.store.mark ≡ finished engine.old }
+    requires swept { IsSwept engine.old.store }
     ensures mark { OnOk result (engine.new.store.mark ≡ finished engine.new) }
+    ensures swept { OnOk result (IsSwept engine.new.store) }
     ensures all { OnOk result (finished engine.new ≡ length engine.new.log.statements) }
     ensures log { engine.new.log ≡ engine.old.log }
     ensures dropped { engine.new.dropped ≡ engine.old.dropped }

@@ -8,6 +8,7 @@ ghost use Rattle.sequencer.specs.Log.{empty_log};
 ghost use Rattle.sequencer.specs.Whole.{IsWhole};
 ghost use Rattle.engine.specs.Engine.{finished};
 ghost use Rattle.batched_text.specs.Reaching.{EndsTaking, HasTaken, IsLogUpTo};
+ghost use Rattle.batched_text.specs.Sweeping.{IsSwept};
 
 use crate::quiet::{QUIET_BATCH, run_rest, take_quietly};
 use engine::Engine;
@@ -33,7 +34,7 @@ fn take_first<R: Read>(
     ensures one { OnOk result (length engine.new.log.statements ≤ 1) }
     ensures unrun { OnOk result (finished engine.new ≡ finished engine.old) }
     ensures kept { OnOk result (engine.new.dropped ≡ engine.old.dropped) }
-    ensures mark { OnOk result (engine.new.store.mark ≡ engine.old.store.mark) }
+    ensures store { OnOk result (engine.new.store ≡ engine.old.store) }
     ensures bound { 0 < length (ahead lines.new) → reader.new.given ≤ MOST_GIVEN_BYTES + BUFFER_BYTES }
     ensures read { result ≡ Err ReadFault.Read → reader.new.errors ≡ raised reader.old.errors }
     ensures other { (result ≡ Err ReadFault.Read → ⊥) → reader.new.errors ≡ reader.old.errors }
@@ -65,7 +66,7 @@ fn take_until<R: Read>(
         ⊎ (length engine.new.log.statements ≤ place + 1)) }
     ensures none { OnOk result (finished engine.new ≡ finished engine.old) }
     ensures kept { OnOk result (engine.new.dropped ≡ engine.old.dropped) }
-    ensures mark { OnOk result (engine.new.store.mark ≡ engine.old.store.mark) }
+    ensures store { OnOk result (engine.new.store ≡ engine.old.store) }
     ensures bound { 0 < length (ahead lines.new) → reader.new.given ≤ MOST_GIVEN_BYTES + BUFFER_BYTES }
     ensures read { result ≡ Err ReadFault.Read → reader.new.errors ≡ raised reader.old.errors }
     ensures other { (result ≡ Err ReadFault.Read → ⊥) → reader.new.errors ≡ reader.old.errors }
@@ -90,6 +91,7 @@ fn run_some<R: Read>(
 ) -> Result<bool, ReadFault>
     requires bound { 0 < length (ahead lines.old) → reader.old.given ≤ MOST_GIVEN_BYTES + BUFFER_BYTES }
     requires mark { engine.old.store.mark ≡ finished engine.old }
+    requires swept { IsSwept engine.old.store }
     requires one { length engine.old.log.statements ≤ finished engine.old + 1 }
     ensures taken { IfOk result (λ more. (input : Option (List ℕ))
         → HasTaken false input (prepend_known (ahead lines.old) (R.remaining reader.old.inner)) place engine.old.log
@@ -98,6 +100,7 @@ fn run_some<R: Read>(
         (EndsTaking input place engine.new.log)) }
     ensures more { result ≡ Ok true → (finished engine.old < finished engine.new) × (finished engine.new ≤ place) }
     ensures mark { OnOk result (engine.new.store.mark ≡ finished engine.new) }
+    ensures swept { OnOk result (IsSwept engine.new.store) }
     ensures few { OnOk result (finished engine.new ≤ finished engine.old + QUIET_BATCH) }
     ensures all { OnOk result (finished engine.new ≡ length engine.new.log.statements) }
     ensures kept { OnOk result (engine.new.dropped ≡ engine.old.dropped) }
@@ -127,6 +130,7 @@ fn run_until<R: Read>(
     ensures all { OnOk result (finished engine.new ≡ length engine.new.log.statements) }
     ensures kept { OnOk result (engine.new.dropped ≤ place) }
     ensures mark { OnOk result (engine.new.store.mark ≡ finished engine.new) }
+    ensures swept { OnOk result (IsSwept engine.new.store) }
     ensures few { OnOk result (finished engine.new ≤ engine.new.dropped + QUIET_BATCH) }
     ensures read { result ≡ Err ReadFault.Read → reader.new.errors ≡ raised reader.old.errors }
     ensures other { (result ≡ Err ReadFault.Read → ⊥) → reader.new.errors ≡ reader.old.errors }
@@ -162,8 +166,9 @@ pub fn run_quietly_to<R: Read>(
     ensures whole { IfOk result (λ engine. IsWhole engine.log) }
     // The place's statement and outcome aren't dropped.
     ensures kept { IfOk result (λ engine. IfSome limit (λ place. engine.dropped ≤ place)) }
-    // No rows before its end are kept, nor statements and outcomes of more than a batch.
+    // No rows before its end are kept, nor versions but those that rows come from, nor statements and outcomes of more than a batch.
     ensures trimmed { IfOk result (λ engine. engine.store.mark ≡ finished engine) }
+    ensures swept { IfOk result (λ engine. IsSwept engine.store) }
     ensures few { IfOk result (λ engine. finished engine ≤ engine.dropped + QUIET_BATCH) }
     // Read says that the reader failed, and nothing else does.
     ensures read { result ≡ Err ReadFault.Read → reader.new.errors ≡ raised reader.old.errors }

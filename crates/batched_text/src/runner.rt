@@ -1,9 +1,10 @@
 //! By what a log is run.
 
 ghost use Rattle.std.specs.Prelude.{◌≡◌};
+ghost use Rattle.batched_text.specs.declared.history.Cut.{Cut};
 ghost use Rattle.batched_text.specs.declared.history.History.{History};
 
-use crate::history::{History, Plan};
+use crate::history::{Cut, History, Plan};
 use crate::settings::Settings;
 use std::alloc::Global;
 
@@ -15,24 +16,26 @@ pub(crate) struct Runner<'r, T> {
 }
 
 impl<'r, T> Runner<'r, T> {
-    /// By these settings. All that is finished is kept.
+    /// By these settings, in full batches. All that is finished is kept.
     pub(crate) fn keeping(rt: &'r T, alloc: Global, settings: Settings) -> Self
-        ensures { result.plan ≡ record { settings = settings; history = History.Kept } }
+        ensures { result.plan ≡ record { settings = settings; history = History.Kept; cut = Cut.WhenFull } }
     {
         let plan = Plan {
             settings,
             history: History::Kept,
+            cut: Cut::WhenFull,
         };
         Runner { rt, alloc, plan }
     }
 
-    /// By these settings. Nothing that is finished is kept.
-    pub(crate) fn dropping(rt: &'r T, alloc: Global, settings: Settings) -> Self
-        ensures { result.plan ≡ record { settings = settings; history = History.Dropped } }
+    /// By these settings, in batches that end so. Nothing that is finished is kept.
+    pub(crate) fn dropping(rt: &'r T, alloc: Global, settings: Settings, cut: Cut) -> Self
+        ensures { result.plan ≡ record { settings = settings; history = History.Dropped; cut = cut } }
     {
         let plan = Plan {
             settings,
             history: History::Dropped,
+            cut,
         };
         Runner { rt, alloc, plan }
     }

@@ -14,14 +14,15 @@ ghost use Rattle.batched_text.specs.Faults.{IsOfRun};
 ghost use Rattle.batched_text.specs.Foretold.{log_names};
 ghost use Rattle.batched_text.specs.History.{NoneWait};
 ghost use Rattle.batched_text.specs.Settings.{IsTrimmed, are_within_limits};
+ghost use Rattle.batched_text.specs.Sweeping.{IsSwept};
 
 use crate::batching::{Batching, report_batch};
 use crate::buffered::Buffered;
-use crate::history::History;
+use crate::history::Cut;
 use crate::lines::deal;
 use crate::lookahead::{Lookahead, ReadingAhead, deal_at_hand};
 use crate::runner::Runner;
-use crate::settings::{Settings, are_within_limits};
+use crate::settings::{Batches, Settings, are_within_limits};
 use engine::Engine;
 use line_io::{Counted, EngineFault, LineReader, flush, write_out, write_pending};
 use log_text::LineBuffers;
@@ -48,7 +49,7 @@ const IN_ORDER: Settings = Settings {
 };
 
 /// Takes the next line, and reports its batch if that is full. False at the end of the input. It is called only while nothing of the
-/// report is pending and, where nothing is kept, while no line waits: so each line is answered before the reader is asked for the next one.
+/// report is pending and, where batches end before reads, while no line waits: so each line is answered before the reader is asked for more.
 #[tactic(auto, using(crate::proofs::Faults::run_stops, crate::proofs::Faults::run_told))]
 fn report_line<T: Threads + Wait + Sync, R: Read>(
     runner: &Runner<T>,
@@ -58,7 +59,7 @@ fn report_line<T: Threads + Wait + Sync, R: Read>(
 ) -> Result<bool, EngineFault>
     requires ready { IsBatchReady runner.now.plan batching.old (length (ahead lines.old)) reader.old.given }
     requires nothing { batching.old.pending.items ≡ [] }
-    requires none { NoneWait runner.now.plan.history batching.old.waiting.items }
+    requires none { NoneWait runner.now.plan.cut batching.old.waiting.items }
     ensures turn { (held : Option (List ℕ)) → BatchedTurn runner.now.plan result
         (standing_at (ahead lines.old) (R.remaining reader.old.inner) reader.old.given held batching.old)
         (standing_at (ahead lines.new) (R.remaining reader.new.inner) reader.new.given held batching.new) }
@@ -86,8 +87,8 @@ fn lines_for(alloc: Global, reading: ReadingAhead) -> Result<LineReader, AllocEr
 }
 
 /// Takes the lines of the input, and runs and reports all of it, the end of the report still pending. In each turn it takes a line, as
-/// `report_line`, and then whole buffered lines, as `deal_at_hand`. Then it reports the lines that wait, unless all is kept, and writes what
-/// is pending.
+/// `report_line`, and then whole buffered lines, as `deal_at_hand`. Then it reports the lines that wait, unless batches are full, and writes
+/// what is pending.
 #[tactic(auto, using(crate::proofs::Faults::run_stops, crate::proofs::Faults::run_told))]
 fn report_all<T: Threads + Wait + Sync, R: Read, W: Write>(
     runner: &Runner<T>,
@@ -119,9 +120,9 @@ fn report_all<T: Threads + Wait + Sync, R: Read, W: Write>(
             given: reader.given,
         };
         let taken = deal_at_hand(runner, &mut lookahead, batching, &buffered)?;
-        match runner.plan.history {
-            History::Kept => {}
-            History::Dropped => report_batch(runner, batching)?,
+        match runner.plan.cut {
+            Cut::WhenFull => {}
+            Cut::BeforeReads => report_batch(runner, batching)?,
         }
         lines.take_ahead(taken);
         write_pending(writer, &mut batching.pending)?;
@@ -205,6 +206,8 @@ pub fn run_text<T: Threads + Wait + Sync, R: Read, W: Write>(
     ensures log { IfOk result (λ engine. IsLogOfText (R.remaining reader.old.inner) engine.log) }
     ensures all { IfOk result (λ engine. finished engine ≡ length engine.log.statements) }
     ensures trimmed { IfOk result (λ engine. IsTrimmed settings.now engine) }
+    // Of each key at most one version lies below the mark, and those of no key say nothing but that its row is absent.
+    ensures swept { IfOk result (λ engine. IsSwept engine.store) }
     ensures kept { IfOk result (λ engine. engine.dropped ≡ 0) }
 {
     if !are_within_limits(settings) {
@@ -220,16 +223,16 @@ pub fn run_text<T: Threads + Wait + Sync, R: Read, W: Write>(
 /// batch its statements and outcomes are dropped once they are reported. So what it keeps beside rows, names and the records of
 /// grants doesn't grow with the accepted lines. Maps find their keys under `seed`.
 ///
-/// A batch ends also where no whole line is available, so that the reader is asked only when all lines before are reported: a line that
-/// comes alone is answered at once. It has at most the whole lines of one read of `BUFFER_BYTES` then, and the one that was begun before.
-/// After each batch the store's mark is `batch * (keep - 1)` places before the start of the batch, or its end if `keep` is 0.
+/// Where bytes arrive `Live` a batch ends also where no whole line is available, so that the reader is asked only when all lines before are
+/// reported: a line that comes alone is answered at once. Where they are `Stored` each batch but the last one is full. After each batch the
+/// store's mark is `batch * (keep - 1)` places before the start of the batch, or its end if `keep` is 0.
 #[tactic(auto, using(crate::proofs::Faults::never_bad, crate::proofs::Faults::one_alone))]
 pub fn report_text<T: Threads + Wait + Sync, R: Read, W: Write>(
     rt: &T,
     alloc: Global,
     reader: &mut Counted<R>,
     writer: &mut Counted<W>,
-    settings: &Settings,
+    batches: &Batches,
     seed: HashSeed,
 ) -> Result<(), EngineFault>
     // What was written is the report of what was read, and after a fault a beginning of it, which says nothing of what the reader has left.
@@ -240,16 +243,17 @@ pub fn report_text<T: Threads + Wait + Sync, R: Read, W: Write>(
     ensures failures { CountsFailures EngineFault.Read EngineFault.Write reader.old reader.new writer.old writer.new result }
 
     // BadSettings comes exactly where a setting is outside its limits, and then nothing is done.
-    ensures bad { (result ≡ Err EngineFault.BadSettings) ↔ (are_within_limits settings.now ≡ false) }
+    ensures bad { (result ≡ Err EngineFault.BadSettings) ↔ (are_within_limits batches.now.settings ≡ false) }
     ensures nothing { result ≡ Err EngineFault.BadSettings → (reader.new ≡ reader.old) × (writer.new ≡ writer.old) }
     // One worker starts no thread.
-    ensures alone { settings.now.workers ≤ 1 → result ≢ Err EngineFault.Spawn }
+    ensures alone { batches.now.settings.workers ≤ 1 → result ≢ Err EngineFault.Spawn }
 {
-    if !are_within_limits(settings) {
+    if !are_within_limits(&batches.settings) {
         return Err(EngineFault::BadSettings);
     }
     let mut batching = Batching::seeded(alloc, seed);
-    let runner = Runner::dropping(rt, alloc, *settings);
+    let cut = Cut::of(batches.arrival);
+    let runner = Runner::dropping(rt, alloc, batches.settings, cut);
     run_batches(&runner, reader, writer, &mut batching, NONE_AHEAD)
 }
 
@@ -283,6 +287,6 @@ pub fn report_in_order<T: Threads + Wait + Sync, R: Read, W: Write>(
     ensures alone { IfErr result IsFaultInOrder }
 {
     let mut batching = Batching::seeded(alloc, seed);
-    let runner = Runner::dropping(rt, alloc, IN_ORDER);
+    let runner = Runner::dropping(rt, alloc, IN_ORDER, Cut::BeforeReads);
     run_batches(&runner, reader, writer, &mut batching, reading)
 }

@@ -12,10 +12,27 @@ pub struct Settings {
     pub workers: usize,
     /// By how many partitions a batch is placed, each by a placer of its own: 1 to `MOST_PARTITIONS`.
     pub partitions: usize,
-    /// How many accepted statements a batch has: 1 to `MOST_BATCH_STATEMENTS`. The last one may have fewer.
+    /// How many accepted statements a batch has: 1 to `MOST_BATCH_STATEMENTS`. The last one may have fewer, and of a log that arrives `Live`
+    /// any may that ends before a read.
     pub batch: u64,
     /// Before how many of the last batches the rows are kept: 0 to `MOST_KEPT_BATCHES`.
     pub keep: u64,
+}
+
+/// How the bytes of a log arrive.
+#[derive(Clone, Copy)]
+pub enum Arrival {
+    /// As they are written: the reader may wait for the next ones, as that of a pipe or a terminal.
+    Live,
+    /// All of them are there, as in a regular file: the reader never waits.
+    Stored,
+}
+
+/// By which settings a log is run in batches, and how its bytes arrive.
+#[derive(Clone, Copy)]
+pub struct Batches {
+    pub settings: Settings,
+    pub arrival: Arrival,
 }
 
 /// Whether each setting is within its limits.

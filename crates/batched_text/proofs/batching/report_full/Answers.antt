@@ -13,7 +13,7 @@ returns-in_ok-report_batch-clause-reports g c =
     let all : waiting + finished old.engine ≡ length old.engine.log.statements =
     omega (arith, count, c.finished.ensures.count, c.requires.filling.counted) in
     reports_all c.args.runner.now.plan old c.report_batch.new.batching c.in_ok-report_batch.ensures.reports
-    c.requires.filling (due c.args.runner.now.plan.history c.args.runner.now.plan.settings old.engine waiting (omega (arith, c.if-waiting-runner.true)) all)
+    c.requires.filling (due c.args.runner.now.plan.cut c.args.runner.now.plan.settings old.engine waiting (omega (arith, c.if-waiting-runner.true)) all)
 
 pub returns-else-waiting-runner-clause-reports : goal.returns-else-waiting-runner-clause-reports
 returns-else-waiting-runner-clause-reports g c =

@@ -7,7 +7,7 @@ use Rattle.batched_text.specs.Foretold.{Runs, WereReadAhead, log_names}
 use Rattle.batched_text.proofs.Cutting.{reports_early, reports_none}
 use Rattle.batched_text.proofs.ForetoldLines.{were_front, were_others}
 use Rattle.batched_text.proofs.RunLines.{runs_early, runs_early_told, runs_none, runs_then}
-use Rattle.batched_text.proofs.foretold.report_foretold.Goals.{in-Kept, in-Dropped+in_ok-report_batch-in-Dropped}
+use Rattle.batched_text.proofs.foretold.report_foretold.Goals.{in-WhenFull, in-BeforeReads+in_ok-report_batch-in-BeforeReads}
 use Rattle.batched_text.proofs.foretold.report_foretold.Goals as goal
 
 pub groups-init : goal.groups-init
@@ -24,22 +24,22 @@ report_each-requires-clause-ahead g c κs within =
     were_front (log_names c.groups.batching) c.args.buffered.now.bytes.now (chunks_mut_rest c.groups.group-iterator) c.in-Some.group.now (chunks_mut_rest c.next.new.self)
     c.in-Some.ensures.steps.1.0 c.groups.invariant.ahead
 
-pub returns-in_err-report_batch-in-Dropped : goal.returns-in_err-report_batch-in-Dropped
-returns-in_err-report_batch-in-Dropped g c =
+pub returns-in_err-report_batch-in-BeforeReads : goal.returns-in_err-report_batch-in-BeforeReads
+returns-in_err-report_batch-in-BeforeReads g c =
     runs_then c.args.runner.now.plan c.args.buffered.now c.args.from c.groups.at c.args.batching.now c.groups.batching c.report_batch.new.batching
-    c.from_residual-in_err-report_batch-in-Dropped.result c.groups.invariant.runs
+    c.from_residual-in_err-report_batch-in-BeforeReads.result c.groups.invariant.runs
     (runs_early_told c.args.runner.now.plan c.args.buffered.now c.groups.at c.in_ok-at.at c.groups.batching c.report_each.new.batching c.report_batch.new.batching
-    c.in_err-report_batch-in-Dropped.field-0.0 c.from_residual-in_err-report_batch-in-Dropped.result c.in_ok-at.ensures c.in_err-report_batch-in-Dropped.ensures.err.1
-    c.in_err-report_batch-in-Dropped.ensures.err.0 c.from_residual-in_err-report_batch-in-Dropped.ensures.1)
+    c.in_err-report_batch-in-BeforeReads.field-0.0 c.from_residual-in_err-report_batch-in-BeforeReads.result c.in_ok-at.ensures c.in_err-report_batch-in-BeforeReads.ensures.err.1
+    c.in_err-report_batch-in-BeforeReads.ensures.err.0 c.from_residual-in_err-report_batch-in-BeforeReads.ensures.1)
 
 pub groups-preserved : goal.groups-preserved
 groups-preserved g c =
     let put : ReportsFirst c.args.runner.now.plan c.report_each.new.batching c.match-runner.batching =
     elim c.match-runner.branch [
-      | in-Kept w ↦ subst (ReportsFirst c.args.runner.now.plan c.report_each.new.batching) (sym w.batching-is) (reports_none c.args.runner.now.plan c.report_each.new.batching c.in_ok-at.ensures.ready.ready.room)
-      | in-Dropped+in_ok-report_batch-in-Dropped w ↦ subst (ReportsFirst c.args.runner.now.plan c.report_each.new.batching) (sym w.batching-is)
-          (reports_early c.args.runner.now.plan c.report_each.new.batching w.report_batch.new.batching c.in_ok-at.ensures.ready.ready.room.filling w.in-Dropped.is
-          w.in_ok-report_batch-in-Dropped.ensures.reports)
+      | in-WhenFull w ↦ subst (ReportsFirst c.args.runner.now.plan c.report_each.new.batching) (sym w.batching-is) (reports_none c.args.runner.now.plan c.report_each.new.batching c.in_ok-at.ensures.ready.ready.room)
+      | in-BeforeReads+in_ok-report_batch-in-BeforeReads w ↦ subst (ReportsFirst c.args.runner.now.plan c.report_each.new.batching) (sym w.batching-is)
+          (reports_early c.args.runner.now.plan c.report_each.new.batching w.report_batch.new.batching c.in_ok-at.ensures.ready.ready.room.filling w.in-BeforeReads.is
+          w.in_ok-report_batch-in-BeforeReads.ensures.reports)
     ] in
     let early = runs_early c.args.runner.now.plan c.args.buffered.now c.groups.at c.in_ok-at.at c.groups.batching c.report_each.new.batching c.match-runner.batching
     c.in_ok-at.ensures put in

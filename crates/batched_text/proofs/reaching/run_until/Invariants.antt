@@ -3,6 +3,7 @@ use Rattle.std.specs.Io.KnownBytes.{prepend_known}
 use Rattle.line_io.specs.Ahead.{ahead}
 use Rattle.engine.specs.Engine.{finished}
 use Rattle.batched_text.specs.Reaching.{HasTaken}
+use Rattle.batched_text.specs.Sweeping.{IsSwept}
 use Rattle.line_io.specs.declared.limits.TheConstants.{BUFFER_BYTES, MOST_GIVEN_BYTES}
 use Rattle.batched_text.proofs.reaching.run_until.Given as goal
 
@@ -15,6 +16,7 @@ invariant-batches g l = record {
   one : length l.engine.log.statements ≤ finished l.engine + 1;
   dropped : l.engine.dropped ≡ finished l.engine;
   mark : l.engine.store.mark ≡ finished l.engine;
+  swept : IsSwept l.engine.store;
   bounded : 0 < length (ahead l.lines) → l.reader.given ≤ MOST_GIVEN_BYTES + BUFFER_BYTES;
   read_errors : l.reader.errors ≡ l.initial.reader.errors;
 }

@@ -10,7 +10,7 @@ lines-init g c = record {
   none = refl;
   kept = refl;
   most = inl (omega arith);
-  mark = refl;
+  store = refl;
   bounded = c.requires;
   read_errors = refl;
 }
@@ -27,7 +27,7 @@ lines-preserved g c =
       none = ap (λ (run : Run). finished run) took.1.1 ∙ c.lines.invariant.none;
       kept = ap (λ (run : Run). run.dropped) took.1.1 ∙ c.lines.invariant.kept;
       most = inr (omega (arith, count, c.lines-test.true, ap (λ (run : Run). length run.log.statements) took.1.1, one_more c.lines.engine.log took.0));
-      mark = ap (λ (run : Run). run.store.mark) took.1.1 ∙ c.lines.invariant.mark;
+      store = ap (λ (run : Run). run.store) took.1.1 ∙ c.lines.invariant.store;
       bounded = λ _. given.1;
       read_errors = c.in_ok-next_line.ensures.other (λ e. cc) ∙ c.lines.invariant.read_errors;
     }

@@ -14,7 +14,7 @@ invariant-lines g l = record {
   none : finished l.engine ≡ finished l.initial.engine;
   kept : l.engine.dropped ≡ l.initial.engine.dropped;
   most : (length l.engine.log.statements ≤ length l.initial.engine.log.statements) ⊎ (length l.engine.log.statements ≤ l.place + 1);
-  mark : l.engine.store.mark ≡ l.initial.engine.store.mark;
+  store : l.engine.store ≡ l.initial.engine.store;
   bounded : 0 < length (ahead l.lines) → l.reader.given ≤ MOST_GIVEN_BYTES + BUFFER_BYTES;
   read_errors : l.reader.errors ≡ l.initial.reader.errors;
 }

@@ -17,7 +17,7 @@ use Rattle.batched_text.proofs.Ended.{batched_start, batched_written, begun_cut,
 use Rattle.batched_text.proofs.Histories.{may_wait, none_wait}
 use Rattle.batched_text.proofs.ReadSofar.{read_begun_cut, read_begun_start, read_whole, run_begun}
 use Rattle.batched_text.proofs.RunLines.{ready_start, runs_early, runs_early_fault}
-use Rattle.batched_text.proofs.running.report_all.Goals.{in-Kept, in-Dropped+in_ok-report_batch-in-Dropped}
+use Rattle.batched_text.proofs.running.report_all.Goals.{in-WhenFull, in-BeforeReads+in_ok-report_batch-in-BeforeReads}
 use Rattle.batched_text.proofs.running.report_all.Goals as goal
 
 pub returns-in_err-lines-clause-begun : goal.returns-in_err-lines-clause-begun
@@ -30,7 +30,7 @@ pub turns-init : goal.turns-init
 turns-init g c = record {
   names = rw (c.seeded-lookahead.ensures, ap (λ (log : Accepted). log.names) c.requires.1.log) (begins_same no_names);
   nothing = c.requires.1.nothing;
-  none = none_wait c.args.runner.now.plan.history _ c.requires.1.nobody;
+  none = none_wait c.args.runner.now.plan.cut _ c.requires.1.nobody;
   ready = record {
     room = open_first c.args.runner.now.plan c.args.batching.now c.requires.0 c.requires.1;
     bounded = search rules;
@@ -63,23 +63,23 @@ returns-in_err-taken-clause-begun_read g c =
     run_begun (g.R.Read.remaining c.args.reader.now.inner) _ (g.W.Write.contents c.args.writer.now.inner) _ (ahead c.report_line.new.lines) c.report_line.new.batching c.deal_at_hand.new.batching
     (rw c.bytes_ahead-bytes.ensures at c.deal_at_hand.ensures.runs.begun) so
 
-pub returns-in_err-report_batch-in-Dropped-clause-begun : goal.returns-in_err-report_batch-in-Dropped-clause-begun
-returns-in_err-report_batch-in-Dropped-clause-begun g c =
+pub returns-in_err-report_batch-in-BeforeReads-clause-begun : goal.returns-in_err-report_batch-in-BeforeReads-clause-begun
+returns-in_err-report_batch-in-BeforeReads-clause-begun g c =
     let took = (rw c.if-branch.true at (c.in_ok-report_line.ensures.turn (g.W.Write.contents c.turns.writer.inner)).taken) refl in
     let so = took.batched _ _ c.turns.invariant.batched in
     let told = runs_early_fault c.args.runner.now.plan (record { bytes = c.bytes_ahead-bytes.result; given = c.report_line.new.reader.given }) 0 c.in_ok-taken.taken c.report_line.new.batching
-    c.deal_at_hand.new.batching c.report_batch.new.batching (Err c.in_err-report_batch-in-Dropped.field-0.0) c.in_ok-taken.ensures.runs
-    c.in_err-report_batch-in-Dropped.ensures.err.1 c.in_err-report_batch-in-Dropped.ensures.err.0 in
+    c.deal_at_hand.new.batching c.report_batch.new.batching (Err c.in_err-report_batch-in-BeforeReads.field-0.0) c.in_ok-taken.ensures.runs
+    c.in_err-report_batch-in-BeforeReads.ensures.err.1 c.in_err-report_batch-in-BeforeReads.ensures.err.0 in
     let begun = rw c.bytes_ahead-bytes.ensures at told.begun in
     begun _ (g.R.Read.remaining c.args.reader.now.inner) (g.W.Write.contents c.args.writer.now.inner) _ so
 
-pub returns-in_err-report_batch-in-Dropped-clause-begun_read : goal.returns-in_err-report_batch-in-Dropped-clause-begun_read
-returns-in_err-report_batch-in-Dropped-clause-begun_read g c =
+pub returns-in_err-report_batch-in-BeforeReads-clause-begun_read : goal.returns-in_err-report_batch-in-BeforeReads-clause-begun_read
+returns-in_err-report_batch-in-BeforeReads-clause-begun_read g c =
     let took = (rw c.if-branch.true at (c.in_ok-report_line.ensures.turn (g.W.Write.contents c.turns.writer.inner)).taken) refl in
     let so = took.batched _ _ c.turns.invariant.batched in
     let told = runs_early_fault c.args.runner.now.plan (record { bytes = c.bytes_ahead-bytes.result; given = c.report_line.new.reader.given }) 0 c.in_ok-taken.taken c.report_line.new.batching
-    c.deal_at_hand.new.batching c.report_batch.new.batching (Err c.in_err-report_batch-in-Dropped.field-0.0) c.in_ok-taken.ensures.runs
-    c.in_err-report_batch-in-Dropped.ensures.err.1 c.in_err-report_batch-in-Dropped.ensures.err.0 in
+    c.deal_at_hand.new.batching c.report_batch.new.batching (Err c.in_err-report_batch-in-BeforeReads.field-0.0) c.in_ok-taken.ensures.runs
+    c.in_err-report_batch-in-BeforeReads.ensures.err.1 c.in_err-report_batch-in-BeforeReads.ensures.err.0 in
     let begun = rw c.bytes_ahead-bytes.ensures at told.begun in
     run_begun (g.R.Read.remaining c.args.reader.now.inner) _ (g.W.Write.contents c.args.writer.now.inner) _ (ahead c.report_line.new.lines) c.report_line.new.batching c.report_batch.new.batching begun so
 
@@ -89,10 +89,10 @@ returns-in_err-write_pending-clause-begun g c =
     let so = took.batched _ _ c.turns.invariant.batched in
     let put : ReportsFirst c.args.runner.now.plan c.deal_at_hand.new.batching c.match-runner.batching =
     elim c.match-runner.branch [
-      | in-Kept w ↦ subst (ReportsFirst c.args.runner.now.plan c.deal_at_hand.new.batching) (sym w.batching-is) (reports_none c.args.runner.now.plan c.deal_at_hand.new.batching c.in_ok-taken.ensures.runs.ready.ready.room)
-      | in-Dropped+in_ok-report_batch-in-Dropped w ↦ subst (ReportsFirst c.args.runner.now.plan c.deal_at_hand.new.batching) (sym w.batching-is)
-          (reports_early c.args.runner.now.plan c.deal_at_hand.new.batching w.report_batch.new.batching c.in_ok-taken.ensures.runs.ready.ready.room.filling w.in-Dropped.is
-          w.in_ok-report_batch-in-Dropped.ensures.reports)
+      | in-WhenFull w ↦ subst (ReportsFirst c.args.runner.now.plan c.deal_at_hand.new.batching) (sym w.batching-is) (reports_none c.args.runner.now.plan c.deal_at_hand.new.batching c.in_ok-taken.ensures.runs.ready.ready.room)
+      | in-BeforeReads+in_ok-report_batch-in-BeforeReads w ↦ subst (ReportsFirst c.args.runner.now.plan c.deal_at_hand.new.batching) (sym w.batching-is)
+          (reports_early c.args.runner.now.plan c.deal_at_hand.new.batching w.report_batch.new.batching c.in_ok-taken.ensures.runs.ready.ready.room.filling w.in-BeforeReads.is
+          w.in_ok-report_batch-in-BeforeReads.ensures.reports)
     ] in
     let early = runs_early c.args.runner.now.plan (record { bytes = c.bytes_ahead-bytes.result; given = c.report_line.new.reader.given }) 0 c.in_ok-taken.taken c.report_line.new.batching
     c.deal_at_hand.new.batching c.match-runner.batching c.in_ok-taken.ensures.runs put in
@@ -106,10 +106,10 @@ returns-in_err-write_pending-clause-begun_read g c =
     let so = took.batched _ _ c.turns.invariant.batched in
     let put : ReportsFirst c.args.runner.now.plan c.deal_at_hand.new.batching c.match-runner.batching =
     elim c.match-runner.branch [
-      | in-Kept w ↦ subst (ReportsFirst c.args.runner.now.plan c.deal_at_hand.new.batching) (sym w.batching-is) (reports_none c.args.runner.now.plan c.deal_at_hand.new.batching c.in_ok-taken.ensures.runs.ready.ready.room)
-      | in-Dropped+in_ok-report_batch-in-Dropped w ↦ subst (ReportsFirst c.args.runner.now.plan c.deal_at_hand.new.batching) (sym w.batching-is)
-          (reports_early c.args.runner.now.plan c.deal_at_hand.new.batching w.report_batch.new.batching c.in_ok-taken.ensures.runs.ready.ready.room.filling w.in-Dropped.is
-          w.in_ok-report_batch-in-Dropped.ensures.reports)
+      | in-WhenFull w ↦ subst (ReportsFirst c.args.runner.now.plan c.deal_at_hand.new.batching) (sym w.batching-is) (reports_none c.args.runner.now.plan c.deal_at_hand.new.batching c.in_ok-taken.ensures.runs.ready.ready.room)
+      | in-BeforeReads+in_ok-report_batch-in-BeforeReads w ↦ subst (ReportsFirst c.args.runner.now.plan c.deal_at_hand.new.batching) (sym w.batching-is)
+          (reports_early c.args.runner.now.plan c.deal_at_hand.new.batching w.report_batch.new.batching c.in_ok-taken.ensures.runs.ready.ready.room.filling w.in-BeforeReads.is
+          w.in_ok-report_batch-in-BeforeReads.ensures.reports)
     ] in
     let early = runs_early c.args.runner.now.plan (record { bytes = c.bytes_ahead-bytes.result; given = c.report_line.new.reader.given }) 0 c.in_ok-taken.taken c.report_line.new.batching
     c.deal_at_hand.new.batching c.match-runner.batching c.in_ok-taken.ensures.runs put in
@@ -130,17 +130,17 @@ returns-in_err-taken-clause-writes g c =
     ∙ writes_told _ c.in_err-taken.field-0.0 c.from_residual-in_err-taken.result c.args.writer.now.errors c.from_residual-in_err-taken.ensures.1
     c.in_err-taken.ensures.runs.err
 
-pub returns-in_err-report_batch-in-Dropped-clause-reads : goal.returns-in_err-report_batch-in-Dropped-clause-reads
-returns-in_err-report_batch-in-Dropped-clause-reads g c =
+pub returns-in_err-report_batch-in-BeforeReads-clause-reads : goal.returns-in_err-report_batch-in-BeforeReads-clause-reads
+returns-in_err-report_batch-in-BeforeReads-clause-reads g c =
     c.in_ok-report_line.ensures.reads ∙ c.turns.invariant.read_errors
-    ∙ reads_told _ c.in_err-report_batch-in-Dropped.field-0.0 c.from_residual-in_err-report_batch-in-Dropped.result c.args.reader.now.errors c.from_residual-in_err-report_batch-in-Dropped.ensures.1
-    c.in_err-report_batch-in-Dropped.ensures.err.0
+    ∙ reads_told _ c.in_err-report_batch-in-BeforeReads.field-0.0 c.from_residual-in_err-report_batch-in-BeforeReads.result c.args.reader.now.errors c.from_residual-in_err-report_batch-in-BeforeReads.ensures.1
+    c.in_err-report_batch-in-BeforeReads.ensures.err.0
 
-pub returns-in_err-report_batch-in-Dropped-clause-writes : goal.returns-in_err-report_batch-in-Dropped-clause-writes
-returns-in_err-report_batch-in-Dropped-clause-writes g c =
+pub returns-in_err-report_batch-in-BeforeReads-clause-writes : goal.returns-in_err-report_batch-in-BeforeReads-clause-writes
+returns-in_err-report_batch-in-BeforeReads-clause-writes g c =
     c.turns.invariant.write_errors
-    ∙ writes_told _ c.in_err-report_batch-in-Dropped.field-0.0 c.from_residual-in_err-report_batch-in-Dropped.result c.args.writer.now.errors c.from_residual-in_err-report_batch-in-Dropped.ensures.1
-    c.in_err-report_batch-in-Dropped.ensures.err.0
+    ∙ writes_told _ c.in_err-report_batch-in-BeforeReads.field-0.0 c.from_residual-in_err-report_batch-in-BeforeReads.result c.args.writer.now.errors c.from_residual-in_err-report_batch-in-BeforeReads.ensures.1
+    c.in_err-report_batch-in-BeforeReads.ensures.err.0
 
 pub returns-in_err-write_pending-clause-reads : goal.returns-in_err-write_pending-clause-reads
 returns-in_err-write_pending-clause-reads g c =
@@ -173,10 +173,10 @@ turns-preserved g c =
     let so = took.batched _ _ c.turns.invariant.batched in
     let put : ReportsFirst c.args.runner.now.plan c.deal_at_hand.new.batching c.match-runner.batching =
     elim c.match-runner.branch [
-      | in-Kept w ↦ subst (ReportsFirst c.args.runner.now.plan c.deal_at_hand.new.batching) (sym w.batching-is) (reports_none c.args.runner.now.plan c.deal_at_hand.new.batching c.in_ok-taken.ensures.runs.ready.ready.room)
-      | in-Dropped+in_ok-report_batch-in-Dropped w ↦ subst (ReportsFirst c.args.runner.now.plan c.deal_at_hand.new.batching) (sym w.batching-is)
-          (reports_early c.args.runner.now.plan c.deal_at_hand.new.batching w.report_batch.new.batching c.in_ok-taken.ensures.runs.ready.ready.room.filling w.in-Dropped.is
-          w.in_ok-report_batch-in-Dropped.ensures.reports)
+      | in-WhenFull w ↦ subst (ReportsFirst c.args.runner.now.plan c.deal_at_hand.new.batching) (sym w.batching-is) (reports_none c.args.runner.now.plan c.deal_at_hand.new.batching c.in_ok-taken.ensures.runs.ready.ready.room)
+      | in-BeforeReads+in_ok-report_batch-in-BeforeReads w ↦ subst (ReportsFirst c.args.runner.now.plan c.deal_at_hand.new.batching) (sym w.batching-is)
+          (reports_early c.args.runner.now.plan c.deal_at_hand.new.batching w.report_batch.new.batching c.in_ok-taken.ensures.runs.ready.ready.room.filling w.in-BeforeReads.is
+          w.in_ok-report_batch-in-BeforeReads.ensures.reports)
     ] in
     let early = runs_early c.args.runner.now.plan (record { bytes = c.bytes_ahead-bytes.result; given = c.report_line.new.reader.given }) 0 c.in_ok-taken.taken c.report_line.new.batching
     c.deal_at_hand.new.batching c.match-runner.batching c.in_ok-taken.ensures.runs put in
@@ -190,13 +190,13 @@ turns-preserved g c =
       names = subst (λ (log : Accepted). Begins c.deal_at_hand.new.lookahead.names log.names) (sym put.log) c.in_ok-taken.ensures.names;
       nothing = search rules;
       none = elim c.match-runner.branch [
-        | in-Kept w ↦ may_wait c.args.runner.now.plan.history c.match-runner.batching.waiting.items w.in-Kept.is
-        | in-Dropped+in_ok-report_batch-in-Dropped w ↦ none_wait c.args.runner.now.plan.history c.match-runner.batching.waiting.items
-            (ap (λ (batching : Batching). batching.waiting.items) w.batching-is ∙ w.in_ok-report_batch-in-Dropped.ensures.reports.left)
+        | in-WhenFull w ↦ may_wait c.args.runner.now.plan.cut c.match-runner.batching.waiting.items w.in-WhenFull.is
+        | in-BeforeReads+in_ok-report_batch-in-BeforeReads w ↦ none_wait c.args.runner.now.plan.cut c.match-runner.batching.waiting.items
+            (ap (λ (batching : Batching). batching.waiting.items) w.batching-is ∙ w.in_ok-report_batch-in-BeforeReads.ensures.reports.left)
       ];
       ready = record {
         room = record {
-          filling = record { within = still.within; whole = still.whole; counted = still.counted; few = still.few; kept = still.kept; cut = still.cut; most = still.most };
+          filling = record { within = still.within; whole = still.whole; counted = still.counted; few = still.few; kept = still.kept; cut = still.cut; swept = still.swept; most = still.most };
           less = runs.ready.ready.room.less;
         };
         bounded = λ some. runs.ready.ready.bounded (omega (arith, some, left));
@@ -234,6 +234,7 @@ returns-clause-ran g c =
       log = subst (λ (log : Accepted). IsLogOfText (g.R.Read.remaining c.args.reader.now.inner) log) (sym put.log) (log_ended _ _ _ _ c.report_line.new.batching ended);
       all = put.all ∙ ap (λ (log : Accepted). length log.statements) (sym put.log);
       trimmed = trimmed_all c.args.runner.now.plan c.report_line.new.batching c.report_batch-2.new.batching put ((rw c.if-branch.false at turn.room) refl).filling;
+      swept = put.swept;
       kept = put.kept;
     }
 

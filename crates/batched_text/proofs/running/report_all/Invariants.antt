@@ -12,7 +12,7 @@ abbrev pub invariant-turns : goal.invariant-turns
 invariant-turns g l = record {
   names : Begins l.lookahead.names (log_names l.batching);
   nothing : l.batching.pending.items ≡ [];
-  none : NoneWait l.runner.plan.history l.batching.waiting.items;
+  none : NoneWait l.runner.plan.cut l.batching.waiting.items;
   ready : IsBatchReady l.runner.plan l.batching (length (ahead l.lines)) l.reader.given;
   batched : BatchedUpTo (g.R.Read.remaining l.initial.reader.inner) (prepend_known (ahead l.lines) (g.R.Read.remaining l.reader.inner))
       (g.W.Write.contents l.initial.writer.inner) (g.W.Write.contents l.writer.inner) l.batching;
