@@ -57,7 +57,7 @@ explains input log question text whole so answers =
     let earlier : List ParsedLine = so.earlier in
     let later : List ParsedLine = so.later in
     let after : Names = names_after log.names later in
-    let low : question.place < length log.statements = explained-within log.statements question.place answers.0 answers.1.0 in
+    let low : question.place < length log.statements = explained-within log.statements question.place answers.lines answers.explaining in
     let stands : Answers (log.statements ++ log_of log.names later) after question text =
     answers-longer log whole (log_of log.names later) after (begins_after log.names later)
     (version-same (lines_of input) earlier later log question.place so.read so.made.names so.made.statements low) question text answers in
@@ -94,11 +94,11 @@ begun (Some input) old new log question whole so (inr answer) =
     inr (answer.0, (explains input log question answer.0 whole so answer.1.0, answer.1.1))
 
 -- all lines were taken, and the log has no such place
-pub no_place : (i : Option (List ℕ)) (log : Accepted) (place : ℕ) → IsLogUpTo i (Some place) log → length log.statements ≤ place → IfSome i (λ input. HasNoPlace input place)
-no_place None log place so past = tt
-no_place (Some input) log place so past =
+pub no_place : (i : Option (List ℕ)) (log : Accepted) (place places : ℕ) → IsLogUpTo i (Some place) log → places ≡ length log.statements → places ≤ place
+    → IfSome i (λ input. HasNoPlace input place places)
+no_place None log place places so all past = tt
+no_place (Some input) log place places so all past =
     elim so.enough [
-      | inl has ↦ absurd (omega (arith, has, past))
-      | inr none ↦
-          (so.earlier, (all-read input (Some place) log so none, subst (λ (statements : List Statement). length statements ≤ place) so.made.statements past))
+      | inl has ↦ absurd (omega (arith, has, all, past))
+      | inr none ↦ (so.earlier, (all-read input (Some place) log so none, (sym (all ∙ ap length so.made.statements), past)))
     ]

@@ -1,6 +1,6 @@
 -- The answer about a place of a log is the answer about the place of a log to which more is appended.
 use Rattle.std.proofs.Common.{◌≡◌, ◌<◌, ◌++◌, ◌∷◌, [], ℕ, List, Option, None, Some, drop, length, refl, sym, ◌∙◌, ap, subst, arith}
-use Rattle.std.specs.Prelude.{All, codes, if◌then◌else◌, slice_get}
+use Rattle.std.specs.Prelude.{All, Bool, MatchBool, codes, false, if◌then◌else◌, slice_get, true}
 use Rattle.std.specs.List.{flat_map}
 use Rattle.std.specs.Option.{option_map}
 use Rattle.std.proofs.lemmas.List.Elements.{All-head, All-tail}
@@ -26,13 +26,13 @@ use Rattle.report.specs.Report.{place_text}
 use Rattle.report.specs.Text.{cause_text, need_text, record_in, records_text, table_name}
 use Rattle.bohm_base.proofs.Reporting.{granted-known, name-longer, records-longer}
 use Rattle.batched_text.proofs.Reports.{needs-own, place-same}
-use Rattle.explain.specs.Explained.{LinesAreGranted, LinesAreNamed, explained, lines_for}
+use Rattle.explain.specs.Explained.{IsExplainedBy, LinesAreGranted, LinesAreNamed, explained, lines_for}
 use Rattle.explain.specs.Lines.{ranks_shown}
 use Rattle.explain.proofs.Granted.{explained-granted}
-use Rattle.explain.proofs.Lines.{lines-named, needs_named}
+use Rattle.explain.proofs.Lines.{explained-sound, lines-named, needs_named}
 use Rattle.audit_text.specs.Explanation.{explanation_text, need_line_text, shown_text}
 use Rattle.log_text.specs.Statement.{kind_word}
-use Rattle.audit_text.specs.Answer.{Answers, AnswersAccepted, answer_text}
+use Rattle.audit_text.specs.Answer.{Answers, AnswersAccepted, EndsAnswer}
 use Rattle.audit_text.specs.declared.question.Question.{Question}
 use Rattle.audit_text.proofs.LaterTables.{lines-more}
 
@@ -48,6 +48,16 @@ explained-there log place lines is = by_statement (slice_get log place) refl is
 
 pub explained-within : (log : List Statement) (place : ℕ) (lines : List Line) → explained log place ≡ Some lines → place < length log
 explained-within log place lines is = let found = explained-there log place lines is in slice_get_within log place found.0 found.1.0
+
+-- the same comes after lines that explain the place of another log too
+ends-there : (log all : List Statement) (question : Question) (lines : List Line) (ending : List ℕ) → explained all question.place ≡ Some lines
+    → EndsAnswer log question lines ending → EndsAnswer all question lines ending
+ends-there log all question lines ending is ended = by_flag question.is_checked ended
+  where
+    by_flag : (b : Bool) → MatchBool b (IsExplainedBy log question.place lines × (ending ≡ codes "checked\n")) (ending ≡ [])
+        → MatchBool b (IsExplainedBy all question.place lines × (ending ≡ codes "checked\n")) (ending ≡ [])
+    by_flag true told = (explained-sound all question.place lines is, told.1)
+    by_flag false none = none
 
 module _ (log : Accepted) (whole : IsWhole log) (more : List Statement) (later : Names) (begins : Begins log.names later) (same : later.version ≡ log.names.version) where
   abbrev all : List Statement
@@ -111,8 +121,8 @@ module _ (log : Accepted) (whole : IsWhole log) (more : List Statement) (later :
   pub answers-longer : (question : Question) (text : List ℕ) → AnswersAccepted log question text → Answers all later question text
   answers-longer question text answers =
       let place = question.place in
-      let lines : List Line = answers.0 in
-      let found = explained-there log.statements place lines answers.1.0 in
+      let lines : List Line = answers.lines in
+      let found = explained-there log.statements place lines answers.explaining in
       let statement : Statement = found.0 in
       let low : place < length log.statements = slice_get_within log.statements place statement found.1.0 in
       let there : slice_get all place ≡ Some statement = get-front log.statements more place low ∙ found.1.0 in
@@ -120,16 +130,17 @@ module _ (log : Accepted) (whole : IsWhole log) (more : List Statement) (later :
       subst (LinesAreNamed (length log.names.tables)) found.1.1
       (lines-named (length log.names.tables) (owners log.statements) (deeds_before log.statements place) place statement.user (needs statement.form)
       (needs_named log whole place statement found.1.0)) in
-      let checked : List ℕ = if question.is_checked then codes "checked\n" else [] in
-      let spelled : answer_text log.statements log.names question lines ≡ answer_text all later question lines =
-      ap (λ (t : List ℕ). t ++ explanation_text log.statements log.names lines ++ checked)
-      (sym (place-same log whole more later begins same place low))
-      ∙ ap (λ (t : List ℕ). place_text all later place ++ t ++ checked)
-      (sym (lines-same place lines named (explained-granted log.statements place lines answers.1.0))) in (
-        lines,
-        (
-          ap (option_map (lines_for all place)) there
-              ∙ ap (λ (ls : List Line). Some ls) (lines_for-longer place statement low found.1.0 ∙ found.1.1),
-          answers.1.1 ∙ spelled,
-        ),
-      )
+      let explaining : explained all place ≡ Some lines =
+      ap (option_map (lines_for all place)) there
+      ∙ ap (λ (ls : List Line). Some ls) (lines_for-longer place statement low found.1.0 ∙ found.1.1) in
+      record {
+        lines = lines;
+        explaining = explaining;
+        ending = answers.ending;
+        ended = ends-there log.statements all question lines answers.ending explaining answers.ended;
+        told = answers.told
+            ∙ ap (λ (t : List ℕ). t ++ explanation_text log.statements log.names lines ++ answers.ending)
+            (sym (place-same log whole more later begins same place low))
+            ∙ ap (λ (t : List ℕ). place_text all later place ++ t ++ answers.ending)
+            (sym (lines-same place lines named (explained-granted log.statements place lines answers.explaining)));
+      }

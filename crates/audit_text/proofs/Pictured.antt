@@ -1,5 +1,5 @@
 -- From a log that was run as far as a place to the text that it was read from, for the picture of its grants.
-use Rattle.std.proofs.Common.{◌≡◌, ◌<◌, ◌⊎◌, ℕ, List, Option, Some, None, arith, length, subst, inl, inr}
+use Rattle.std.proofs.Common.{◌≡◌, ◌<◌, ◌⊎◌, ◌∙◌, ℕ, List, Option, Some, None, ap, arith, length, sym, inl, inr}
 use Rattle.std.specs.Prelude.{Err, IfSome, Ok, OnOk, Result}
 use Rattle.std.specs.Io.KnownBytes.{Appends}
 use Rattle.line_io.specs.Known.{AppendsFront}
@@ -26,17 +26,16 @@ begun (Some input) old new log limit so (inl same) = inl same
 begun (Some input) old new log limit so (inr picture) = inr (picture.0, ((log, (so, picture.1.0)), picture.1.1))
 
 -- all lines were taken, and the log ends before the place
-ends_before-front : (input : List ℕ) (log : Accepted) (limit : Option ℕ) → IsLogOfFront input limit log
-    → length log.statements < place_before log.statements limit → EndsBefore input limit
-ends_before-front input log None so past = absurd (omega (arith, past))
-ends_before-front input log (Some place) so past =
+ends_before-front : (input : List ℕ) (log : Accepted) (limit : Option ℕ) (places : ℕ) → IsLogOfFront input limit log
+    → places ≡ length log.statements → places < place_before log.statements limit → EndsBefore input limit places
+ends_before-front input log None places so all past = absurd (omega (arith, all, past))
+ends_before-front input log (Some place) places so all past =
     elim so.enough [
-      | inl has ↦ absurd (omega (arith, has, past))
-      | inr none ↦
-          (so.earlier, (all-read input (Some place) log so none, subst (λ (statements : List Statement). length statements < place) so.made.statements past))
+      | inl has ↦ absurd (omega (arith, has, all, past))
+      | inr none ↦ (so.earlier, (all-read input (Some place) log so none, (sym (all ∙ ap length so.made.statements), past)))
     ]
 
-pub ends_before : (i : Option (List ℕ)) (log : Accepted) (limit : Option ℕ) → IsLogUpTo i limit log
-    → length log.statements < place_before log.statements limit → IfSome i (λ input. EndsBefore input limit)
-ends_before None log limit so past = tt
-ends_before (Some input) log limit so past = ends_before-front input log limit so past
+pub ends_before : (i : Option (List ℕ)) (log : Accepted) (limit : Option ℕ) (places : ℕ) → IsLogUpTo i limit log
+    → places ≡ length log.statements → places < place_before log.statements limit → IfSome i (λ input. EndsBefore input limit places)
+ends_before None log limit places so all past = tt
+ends_before (Some input) log limit places so all past = ends_before-front input log limit places so all past

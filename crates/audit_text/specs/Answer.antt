@@ -1,27 +1,28 @@
 -- What is answered about a place of the text of a log: the report's line for the place, and why its statement was admitted or denied.
-use Rattle.std.specs.Prelude.{◌≡◌, ◌≤◌, ◌++◌, ℕ, List, [], Some, codes, if◌then◌else◌, length}
+use Rattle.std.specs.Prelude.{◌≡◌, ◌≤◌, ◌++◌, ℕ, List, MatchBool, [], Some, codes, length}
 use Rattle.model_base.specs.declared.statement.Statement.{Statement}
 use Rattle.line_io.specs.Lines.{lines_of}
 use Rattle.explain.specs.declared.line.Line.{Line}
 use Rattle.sequencer.specs.Catalog.{Names, no_names}
 use Rattle.sequencer.specs.Log.{Accepted}
 use Rattle.report.specs.Report.{AreParsedLines, ParsedLine, log_of, names_after, place_text}
-use Rattle.explain.specs.Explained.{explained}
+use Rattle.explain.specs.Explained.{IsExplainedBy, explained}
 use Rattle.audit_text.specs.Explanation.{explanation_text}
 use Rattle.audit_text.specs.declared.question.Question.{Question}
 
--- the report's line for the place, then the lines that explain it, and then `checked` where that is asked; `names` has the names
--- of the log
-abbrev pub answer_text : List Statement → Names → Question → List Line → List ℕ
-answer_text log names question lines =
-    place_text log names question.place
-    ++ explanation_text log names lines
-    ++ (if question.is_checked then codes "checked\n" else [])
+-- what comes after the lines that explain a place: where a check is asked for, `checked`, and then the lines are sound; else nothing
+abbrev pub EndsAnswer : List Statement → Question → List Line → List ℕ → Type 0
+EndsAnswer log question lines ending =
+    MatchBool question.is_checked (IsExplainedBy log question.place lines × (ending ≡ codes "checked\n")) (ending ≡ [])
 
--- the text answers the question about a log with these names
-abbrev pub Answers : List Statement → Names → Question → List ℕ → Type 0
-Answers log names question text =
-    (lines : List Line) × ((explained log question.place ≡ Some lines) × (text ≡ answer_text log names question lines))
+-- the text answers the question about a log with these names: it is the report's line for the place, then the lines that explain it,
+-- and, where a check is asked for, `checked` after lines that are sound
+pub record Answers (log : List Statement) (names : Names) (question : Question) (text : List ℕ) : Type 0 where
+  pub lines : List Line
+  pub explaining : explained log question.place ≡ Some lines
+  pub ending : List ℕ
+  pub ended : EndsAnswer log question lines ending
+  pub told : text ≡ place_text log names question.place ++ explanation_text log names lines ++ ending
 
 -- so it does for a log that was taken
 abbrev pub AnswersAccepted : Accepted → Question → List ℕ → Type 0
@@ -33,7 +34,8 @@ IsExplanation input question text =
     (readings : List ParsedLine)
     × (AreParsedLines (lines_of input) readings × Answers (log_of no_names readings) (names_after no_names readings) question text)
 
--- the log that the lines of the input make has no such place
-abbrev pub HasNoPlace : List ℕ → ℕ → Type 0
-HasNoPlace input place =
-    (readings : List ParsedLine) × (AreParsedLines (lines_of input) readings × (length (log_of no_names readings) ≤ place))
+-- the log that the lines of the input make has so many places, and not this one
+abbrev pub HasNoPlace : List ℕ → ℕ → ℕ → Type 0
+HasNoPlace input place places =
+    (readings : List ParsedLine)
+    × (AreParsedLines (lines_of input) readings × ((length (log_of no_names readings) ≡ places) × (places ≤ place)))

@@ -30,9 +30,9 @@ IsPictureOf log limit text = Pictures log.statements log.names limit text
 abbrev pub IsPicture : List ℕ → Option ℕ → List ℕ → Type 0
 IsPicture input limit text = (log : Accepted) × (IsLogOfFront input limit log × IsPictureOf log limit text)
 
--- the log that the lines of the input make ends before the place
-abbrev pub EndsBefore : List ℕ → Option ℕ → Type 0
-EndsBefore input limit =
+-- the log that the lines of the input make has so many places, and ends before this one
+abbrev pub EndsBefore : List ℕ → Option ℕ → ℕ → Type 0
+EndsBefore input limit places =
     (readings : List ParsedLine)
     × (AreParsedLines (lines_of input) readings
-    × (length (log_of no_names readings) < place_before (log_of no_names readings) limit))
+    × ((length (log_of no_names readings) ≡ places) × (places < place_before (log_of no_names readings) limit)))

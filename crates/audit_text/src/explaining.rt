@@ -32,8 +32,8 @@ fn write_answer<W: Write>(
         × (AnswersAccepted engine.now.log question text × Appends (W.contents writer.old.inner) (W.contents writer.new.inner) text)) }
     ensures begun { (W.contents writer.new.inner ≡ W.contents writer.old.inner) ⊎ ((text : List ℕ)
         × (AnswersAccepted engine.now.log question text × AppendsFront (W.contents writer.old.inner) (W.contents writer.new.inner) text)) }
-    ensures none { result ≡ Err AuditFault.NoSuchPlace
-        → (writer.new ≡ writer.old) × (length engine.now.log.statements ≤ question.place) }
+    ensures none { (places : ℕ) → result ≡ Err (AuditFault.NoSuchPlace places) → (writer.new ≡ writer.old)
+        × (places ≡ length engine.now.log.statements) × (places ≤ question.place) }
     ensures read { result ≡ Err AuditFault.Read → ⊥ }
     ensures write { result ≡ Err AuditFault.Write → writer.new.errors ≡ raised writer.old.errors }
     ensures whole { OnOk result (writer.new.errors ≡ writer.old.errors) }
@@ -54,9 +54,9 @@ fn write_answer<W: Write>(
 /// is available: a reader that fails later is never met. Names, rows and grants are kept, and of statements and outcomes those of one
 /// batch.
 ///
-/// `NoSuchPlace` comes only where the log has no such place, `NoMemory` where a growth was refused, `Read` where the reader failed, `Write`
-/// where the writer failed, or took no byte of a piece that wasn't empty. After `Write` a beginning of the answer is written, and after any
-/// other fault nothing was written.
+/// `NoSuchPlace` comes only where the log has no such place, with the number of its places, `NoMemory` where a growth was refused, `Read`
+/// where the reader failed, `Write` where the writer failed, or took no byte of a piece that wasn't empty. After `Write` a beginning of the
+/// answer is written, and after any other fault nothing was written.
 pub fn explain_text<R: Read, W: Write>(
     alloc: Global,
     reader: &mut Counted<R>,
@@ -68,9 +68,9 @@ pub fn explain_text<R: Read, W: Write>(
     // After a fault it is a beginning of it, or nothing.
     ensures text { SaysText (λ input text. IsExplanation input question text)
         (R.remaining reader.old.inner) (W.contents writer.old.inner) (W.contents writer.new.inner) result }
-    // NoSuchPlace comes only where the log of the text has no such place, and nothing is written then.
-    ensures none { result ≡ Err AuditFault.NoSuchPlace
-        → (writer.new ≡ writer.old) × IfSome (R.remaining reader.old.inner) (λ input. HasNoPlace input question.place) }
+    // NoSuchPlace comes only where the log of the text has that many places and not this one, and nothing is written then.
+    ensures none { (places : ℕ) → result ≡ Err (AuditFault.NoSuchPlace places)
+        → (writer.new ≡ writer.old) × IfSome (R.remaining reader.old.inner) (λ input. HasNoPlace input question.place places) }
     // Read and Write come only where the reader or the writer failed. Ok says that neither did, and that the writer was flushed at the end.
     ensures failures { CountsFailures AuditFault.Read AuditFault.Write reader.old reader.new writer.old writer.new result }
 {

@@ -23,13 +23,14 @@ fn put_picture(text: &mut Vec<u8>, engine: &Engine, limit: Option<Place>) -> Res
     requires all { finished engine.now ≡ length engine.now.log.statements }
     requires empty { text.old.items ≡ [] }
     ensures picture { OnOk result (IsPictureOf engine.now.log limit text.new.items) }
-    ensures none { result ≡ Err AuditFault.NoSuchPlace → length engine.now.log.statements < place_before engine.now.log.statements limit }
-    ensures err { IfErr result (λ f. (f ≡ AuditFault.NoMemory) ⊎ (f ≡ AuditFault.NoSuchPlace)) }
+    ensures none { (places : ℕ) → result ≡ Err (AuditFault.NoSuchPlace places)
+        → (places ≡ length engine.now.log.statements) × (places < place_before engine.now.log.statements limit) }
+    ensures err { IfErr result (λ f. (f ≡ AuditFault.NoMemory) ⊎ ((places : ℕ) × (f ≡ AuditFault.NoSuchPlace places))) }
 {
     let log = engine.log();
     let place = limit.unwrap_or(log.len());
     if log.len() < place {
-        return Err(AuditFault::NoSuchPlace);
+        return Err(AuditFault::NoSuchPlace(log.len()));
     }
     put_graph(text, log.catalog(), engine.book(), place)?;
     Ok(())
@@ -47,8 +48,8 @@ fn write_picture<W: Write>(
         × (IsPictureOf engine.now.log limit text × Appends (W.contents writer.old.inner) (W.contents writer.new.inner) text)) }
     ensures begun { (W.contents writer.new.inner ≡ W.contents writer.old.inner) ⊎ ((text : List ℕ)
         × (IsPictureOf engine.now.log limit text × AppendsFront (W.contents writer.old.inner) (W.contents writer.new.inner) text)) }
-    ensures none { result ≡ Err AuditFault.NoSuchPlace → (writer.new ≡ writer.old)
-        × (length engine.now.log.statements < place_before engine.now.log.statements limit) }
+    ensures none { (places : ℕ) → result ≡ Err (AuditFault.NoSuchPlace places) → (writer.new ≡ writer.old)
+        × (places ≡ length engine.now.log.statements) × (places < place_before engine.now.log.statements limit) }
     ensures read { result ≡ Err AuditFault.Read → ⊥ }
     ensures write { result ≡ Err AuditFault.Write → writer.new.errors ≡ raised writer.old.errors }
     ensures whole { OnOk result (writer.new.errors ≡ writer.old.errors) }
@@ -65,9 +66,9 @@ fn write_picture<W: Write>(
 /// it. Then the writer is flushed. The log's report isn't made. What comes after the place's line isn't taken, as in `explain_text`. Maps
 /// find their keys under `seed`.
 ///
-/// `NoSuchPlace` comes only where the log ends before the place, `NoMemory` where a growth was refused, `Read` where the reader failed,
-/// `Write` where the writer failed, or took no byte of a piece that wasn't empty. After `Write` a beginning of the picture is written, and
-/// after any other fault nothing was written.
+/// `NoSuchPlace` comes only where the log ends before the place, with the number of its places, `NoMemory` where a growth was refused,
+/// `Read` where the reader failed, `Write` where the writer failed, or took no byte of a piece that wasn't empty. After `Write` a beginning
+/// of the picture is written, and after any other fault nothing was written.
 pub fn grants_text<R: Read, W: Write>(
     alloc: Global,
     reader: &mut Counted<R>,
@@ -79,9 +80,9 @@ pub fn grants_text<R: Read, W: Write>(
     // After a fault it is a beginning of it, or nothing.
     ensures text { SaysText (λ input text. IsPicture input limit text)
         (R.remaining reader.old.inner) (W.contents writer.old.inner) (W.contents writer.new.inner) result }
-    // NoSuchPlace comes only where the log of the text ends before the place, and nothing is written then.
-    ensures none { result ≡ Err AuditFault.NoSuchPlace
-        → (writer.new ≡ writer.old) × IfSome (R.remaining reader.old.inner) (λ input. EndsBefore input limit) }
+    // NoSuchPlace comes only where the log of the text has that many places and ends before the place, and nothing is written then.
+    ensures none { (places : ℕ) → result ≡ Err (AuditFault.NoSuchPlace places)
+        → (writer.new ≡ writer.old) × IfSome (R.remaining reader.old.inner) (λ input. EndsBefore input limit places) }
     // Read and Write come only where the reader or the writer failed. Ok says that neither did, and that the writer was flushed at the end.
     ensures failures { CountsFailures AuditFault.Read AuditFault.Write reader.old reader.new writer.old writer.new result }
 {

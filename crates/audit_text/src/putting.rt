@@ -1,6 +1,6 @@
 //! The answer to a question about a place of a log that is run.
 
-ghost use Rattle.std.specs.Prelude.{◌≡◌, ◌<◌, ◌≤◌, ◌++◌, ◌⊎◌, [], Err, IfErr, IfOk, OnOk, Some, codes, length};
+ghost use Rattle.std.specs.Prelude.{◌≡◌, ◌<◌, ◌≤◌, ◌++◌, ◌⊎◌, [], ℕ, Decides, Err, IfErr, IfOk, OnOk, Some, codes, length, true};
 ghost use Rattle.engine.specs.Engine.{finished};
 ghost use Rattle.report.specs.Report.{place_text};
 ghost use Rattle.explain.specs.Explained.{IsExplainedBy, LinesAreNamed, explained};
@@ -37,19 +37,22 @@ fn explain_place(alloc: Global, engine: &Engine, place: Place) -> Result<Explana
     }
 }
 
-/// Appends `checked` to the text where the check accepts the explanation, as it does if that is sound.
-fn put_checked(
-    text: &mut Vec<u8>,
-    engine: &Engine,
-    explanation: &Explanation,
-) -> Result<(), AllocError>
+/// Whether the check accepts the explanation of a place that is finished and kept.
+fn is_accepted(engine: &Engine, explanation: &Explanation) -> bool
     requires kept { engine.now.dropped ≤ explanation.now.place }
     requires within { explanation.now.place < finished engine.now }
-    requires sound { IsExplainedBy engine.now.log.statements explanation.now.place explanation.now.lines.items }
-    ensures { OnOk result (text.new.items ≡ text.old.items ++ codes "checked\n") }
+    ensures { Decides result (IsExplainedBy engine.now.log.statements explanation.now.place explanation.now.lines.items) }
 {
     let _finished = engine.finished();
-    if !check(explanation, engine.log(), engine.book()) {
+    check(explanation, engine.log(), engine.book())
+}
+
+/// Appends `checked` to the text, for an explanation that the check accepted. An error means out of memory.
+fn put_checked(text: &mut Vec<u8>, is_accepted: bool) -> Result<(), AllocError>
+    requires { is_accepted ≡ true }
+    ensures { OnOk result (text.new.items ≡ text.old.items ++ codes "checked\n") }
+{
+    if !is_accepted {
         return Ok(());
     }
     text.extend_from_slice(b"checked\n")
@@ -90,10 +93,11 @@ fn put_found(
     explanations_name_earlier_grants();
     let found = explain_place(alloc, engine, question.place)?;
     put_explained(alloc, text, engine, &found)?;
-    if question.is_checked {
-        put_checked(text, engine, &found)?;
+    if !question.is_checked {
+        return Ok(());
     }
-    Ok(())
+    let is_accepted = is_accepted(engine, &found);
+    put_checked(text, is_accepted)
 }
 
 /// Writes the answer to a question about a log that is run into an empty text.
@@ -107,11 +111,12 @@ pub(crate) fn put_answer(
     requires all { finished engine.now ≡ length engine.now.log.statements }
     requires empty { text.old.items ≡ [] }
     ensures answer { OnOk result (AnswersAccepted engine.now.log question text.new.items) }
-    ensures none { result ≡ Err AuditFault.NoSuchPlace → length engine.now.log.statements ≤ question.place }
-    ensures err { IfErr result (λ f. (f ≡ AuditFault.NoMemory) ⊎ (f ≡ AuditFault.NoSuchPlace)) }
+    ensures none { (places : ℕ) → result ≡ Err (AuditFault.NoSuchPlace places)
+        → (places ≡ length engine.now.log.statements) × (places ≤ question.place) }
+    ensures err { IfErr result (λ f. (f ≡ AuditFault.NoMemory) ⊎ ((places : ℕ) × (f ≡ AuditFault.NoSuchPlace places))) }
 {
     if engine.log().len() <= question.place {
-        return Err(AuditFault::NoSuchPlace);
+        return Err(AuditFault::NoSuchPlace(engine.log().len()));
     }
     put_found(alloc, text, engine, question)?;
     Ok(())

@@ -12,9 +12,9 @@ returns-clause-text g c =
     )
 
 pub returns-clause-none : goal.returns-clause-none
-returns-clause-none g c is =
-    let told = c.write_answer.ensures.none is in
-    (told.0, no_place _ _ c.args.question.place c.in_ok-engine.ensures.log told.1)
+returns-clause-none g c places is =
+    let told = c.write_answer.ensures.none places is in
+    (told.0, no_place _ _ c.args.question.place places c.in_ok-engine.ensures.log told.1 told.2)
 
 pub returns-clause-failures : goal.returns-clause-failures
 returns-clause-failures g c =

@@ -11,9 +11,9 @@ returns-clause-text g c =
     )
 
 pub returns-clause-none : goal.returns-clause-none
-returns-clause-none g c is =
-    let told = c.write_picture.ensures.none is in
-    (told.0, ends_before _ _ c.args.limit c.in_ok-engine.ensures.log told.1)
+returns-clause-none g c places is =
+    let told = c.write_picture.ensures.none places is in
+    (told.0, ends_before _ _ c.args.limit places c.in_ok-engine.ensures.log told.1 told.2)
 
 pub returns-clause-failures : goal.returns-clause-failures
 returns-clause-failures g c =
