@@ -1,5 +1,5 @@
 -- An explanation of a place of a run that is fed is one of each text that begins with what was taken.
-use Rattle.std.proofs.Common.{◌≡◌, ◌<◌, ◌++◌, ◌∷◌, ◌∙◌, [], ℕ, List, Some, ap, arith, false, length, subst, sym}
+use Rattle.std.proofs.Common.{◌≡◌, ◌<◌, ◌++◌, ◌∷◌, ◌∙◌, [], ℕ, List, Some, ap, arith, false, length, refl, subst, sym}
 use Rattle.std.specs.Prelude.{◌==◌}
 use Rattle.std.proofs.lemmas.List.{append-nil}
 use Rattle.log_text.proofs.Total.{total_in}
@@ -39,7 +39,7 @@ answers_text : (input : List ℕ) (log : Accepted) (earlier later : List ParsedL
     → AreParsedLines (lines_of input) (earlier ++ later) → IsLogOf earlier log lines → AnswersAccepted log question text → IsExplanation input question text
 answers_text input log earlier later lines question text whole rest are reads made answers =
     let after : Names = names_after log.names later in
-    let low : question.place < length log.statements = explained-within log.statements question.place answers.0 answers.1.0 in
+    let low : question.place < length log.statements = explained-within log.statements question.place answers.lines answers.explaining in
     let stands : Answers (log.statements ++ log_of log.names later) after question text =
     answers-longer log whole (log_of log.names later) after (begins_after log.names later)
     (version-same earlier later log question.place rest made.names made.statements low are) question text answers in
@@ -69,4 +69,10 @@ fed_explains run place lines text is told = λ input written future stands may.
     let question : Question = record { place = place; is_checked = false } in
     let whole_text : List ℕ = place_text log.statements log.names place ++ explanation_text log.statements log.names lines in
     answers_text (input ++ future) log so.earlier later.0 (so.reported ++ run.order.waiting) question text so.whole rest later.1 (read_before (input ++ future) (stands.tail ++ future) so.earlier so.leads later.0 later.1) so.made
-    (lines, (is, told ∙ sym (append-nil whole_text)))
+    (record {
+      lines = lines;
+      explaining = is;
+      ending = [];
+      ended = refl;
+      told = told ∙ sym (append-nil whole_text);
+    })

@@ -1,3 +1,4 @@
+pub mod Between
 pub mod Faults
 pub mod Progress
 pub mod Stands

@@ -1,5 +1,7 @@
 -- How far a log is that is run in order.
 use Rattle.std.specs.Prelude.{◌≡◌, ◌<◌, ◌≤◌, ◌+◌, ◌-◌, ◌++◌, ◌∷◌, [], ℕ, Bool, List, Some, length, max}
+use Rattle.model_base.specs.declared.row.Key.{Key}
+use Rattle.chains.specs.Store.{Store, of_key, swept, trimmed}
 use Rattle.sequencer.specs.Log.{Accepted}
 use Rattle.explain.specs.declared.line.Line.{Line}
 use Rattle.explain.specs.Explained.{explained}
@@ -28,6 +30,10 @@ pub record HasReached (now : Progress) : Type 0 where
   pub dropped : now.run.dropped ≤ now.reported - now.keep
   pub few_rows : now.reported < now.run.store.mark + SWEPT_PLACES
   pub few_places : now.reported < now.run.dropped + now.keep + max now.keep SWEPT_PLACES
+
+-- the store was trimmed to the place, and what says nothing then was swept out
+abbrev pub IsSweptTo : ℕ → Store → Store → Type 0
+IsSweptTo place old new = (key : Key) → of_key key new.versions ≡ swept place (trimmed place (of_key key old.versions))
 
 -- a line that was read so was taken, and waits
 pub record TakesLine (reading : ParsedLine) (old new : Progress) : Type 0 where

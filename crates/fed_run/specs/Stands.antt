@@ -56,6 +56,18 @@ pub record TakesBytes (input : List ℕ) (old new : FedRun) (used_old used_new :
   pub within : used_new ≤ length input
   pub stands : (text written : List ℕ) → IsFed old (text ++ take used_old input) written → IsFed new (text ++ take used_new input) written
 
+-- no line waits, and no byte of the report does
+pub record NothingWaits (run : FedRun) : Type 0 where
+  pub none : run.order.waiting ≡ []
+  pub nothing : unsent run ≡ []
+
+-- of the input this many bytes were taken, and what was made of the report comes after what was pending
+pub record FeedsInto (input : List ℕ) (old new : FedRun) (pending_old pending_new : List ℕ) (used : ℕ) : Type 0 where
+  pub within : used ≤ length input
+  pub stands : (text written : List ℕ) → IsFed old text (written ++ pending_old)
+      → IsFed new (text ++ take used input) (written ++ pending_new)
+  pub ended : new.is_ended ≡ old.is_ended
+
 -- the text explains the place, whatever comes: it is the explanation of the place of each text that begins with what was taken
 abbrev pub TextExplains : FedRun → ℕ → List ℕ → Type 0
 TextExplains run place text = (input written future : List ℕ) → IsFed run input written → MayCome run future

@@ -11,8 +11,8 @@ use crate::keeping::keep_more;
 use explain::ExplainFault;
 use line_io::{KEPT_BYTES, cut_line};
 use log_text::LineBuffers;
-use model_base::Place;
-use std::alloc::Global;
+use model_base::{HashSeed, Place};
+use std::alloc::{AllocError, Global};
 
 /// How far a call came.
 #[derive(Clone, Copy, Debug)]
@@ -44,15 +44,25 @@ pub struct FedRun {
 
 impl FedRun {
     ghost use Rattle.fed_run.specs.Progress.{ReadsAndTakes};
-    ghost use Rattle.fed_run.specs.Stands.{TextExplains, Feeds, Gives, IsUnfed, IsGivenOut, IsFed, TakesBytes, next_line, unsent};
+    ghost use Rattle.fed_run.specs.Stands.{Feeds, FeedsInto, Gives, IsFed, IsGivenOut, IsUnfed, NothingWaits, TakesBytes};
+    ghost use Rattle.fed_run.specs.Stands.{TextExplains, next_line, unsent};
 
     /// Before the first byte. It doesn't allocate.
     pub fn new(alloc: Global) -> FedRun
         ensures stands { IsFed result [] [] }
         ensures open { result.is_ended ≡ false }
     {
+        FedRun::seeded(alloc, HashSeed::fixed())
+    }
+
+    /// The same, which finds names, rows and grants under this seed.
+    pub fn seeded(alloc: Global, seed: HashSeed) -> FedRun
+        ensures stands { IsFed result [] [] }
+        ensures open { result.is_ended ≡ false }
+        ensures settled { NothingWaits result }
+    {
         FedRun {
-            order: InOrder::new(alloc),
+            order: InOrder::seeded(alloc, seed),
             lines: 0,
             begun: Vec::new(alloc),
             text: Vec::new(alloc),
@@ -219,6 +229,7 @@ impl FedRun {
     }
 
     /// Takes the line that has begun, if one has, and these bytes, which end the line.
+    #[inline(always)]
     fn take_line<'a>(
         &mut self,
         alloc: Global,
@@ -259,6 +270,7 @@ impl FedRun {
     }
 
     /// Takes the first line of the bytes, or all of them where no line is whole, and returns how many bytes it took. On `Err` it took none.
+    #[inline(always)]
     fn take<'a>(
         &mut self,
         alloc: Global,
@@ -428,5 +440,67 @@ impl FedRun {
         let mut step = Step { used: 0, made: 0 };
         let done = self.end(alloc, out, &mut step);
         (step.made, done)
+    }
+
+    /// Moves the bytes of the report that wait to be given to the end of `pending`. On `Err`, out of memory, they wait still.
+    fn move_rest(&mut self, pending: &mut Vec<u8>) -> Result<(), AllocError>
+        ensures stands { (input written : List ℕ) → IsFed self.old input (written ++ pending.old.items)
+            → IsFed self.new input (written ++ pending.new.items) }
+        ensures none { OnOk result (unsent self.new ≡ []) }
+        ensures order { self.new.order ≡ self.old.order }
+        ensures begun { self.new.begun.items ≡ self.old.begun.items }
+        ensures ended { self.new.is_ended ≡ self.old.is_ended }
+    {
+        pending.extend_from_slice(self.rest())?;
+        self.sent = self.text.len();
+        Ok(())
+    }
+
+    /// Takes all of the input, and appends the report's lines for the lines that end in it to `pending`. Lines are run up to 64 at once.
+    /// On `Err` a part of the input was taken, and the lines of a beginning of it are pending.
+    pub(crate) fn take_all(
+        &mut self,
+        alloc: Global,
+        input: &[u8],
+        pending: &mut Vec<u8>,
+    ) -> Result<(), FeedFault>
+        requires open { self.old.is_ended ≡ false }
+        requires settled { NothingWaits self.old }
+        ensures feeds { (used : ℕ) × FeedsInto input.now self.old self.new pending.old.items pending.new.items used }
+        ensures all { OnOk result (FeedsInto input.now self.old self.new pending.old.items pending.new.items (length input.now)) }
+        ensures settled { OnOk result (NothingWaits self.new) }
+        ensures open { result ≡ Err FeedFault.Ended → ⊥ }
+        ensures counted { result ≡ Err FeedFault.Full → 2 ^ 64 ≤ self.new.lines + length self.new.order.waiting + 1 }
+    {
+        let mut raw = LineBuffers::new(alloc);
+        let mut step = Step { used: 0, made: 0 };
+        'lines: while step.used < input.len() {
+            self.take_lines(alloc, input, &mut raw, &mut step)?;
+            self.settle(alloc)?;
+            self.move_rest(pending)?;
+        }
+        Ok(())
+    }
+
+    /// Ends the text, so that bytes after its last LF are a line too, and appends the report's line for it to `pending`. Then the report
+    /// is whole.
+    pub(crate) fn end_all(&mut self, alloc: Global, pending: &mut Vec<u8>) -> Result<(), FeedFault>
+        requires settled { NothingWaits self.old }
+        ensures stands { (text written : List ℕ) → IsFed self.old text (written ++ pending.old.items)
+            → IsFed self.new text (written ++ pending.new.items) }
+        ensures report { OnOk result ((text written : List ℕ) → IsFed self.old text (written ++ pending.old.items)
+            → IsReport text (written ++ pending.new.items)) }
+        ensures open { result ≡ Err FeedFault.Ended → ⊥ }
+        ensures counted { result ≡ Err FeedFault.Full → 2 ^ 64 ≤ self.new.lines + length self.new.order.waiting + 1 }
+    {
+        self.is_ended = true;
+        if self.begun.is_empty() {
+            return Ok(());
+        }
+        let mut room = LineBuffers::new(alloc);
+        self.take_line(alloc, &[], &mut room)?;
+        self.settle(alloc)?;
+        self.move_rest(pending)?;
+        Ok(())
     }
 }

@@ -9,6 +9,7 @@ ghost use Rattle.batched_text.specs.Batching.{lines_text};
 ghost use Rattle.batched_text.specs.Places.{places_in};
 ghost use Rattle.sequencer.specs.Log.{empty_log};
 ghost use Rattle.sequencer.specs.Whole.{IsWhole};
+ghost use Rattle.fed_run.specs.Progress.{IsSweptTo};
 
 use audit_text::put_explanation;
 use batched_text::{put_lines, put_place, take_text};
@@ -16,7 +17,7 @@ use bohm_base::LineOutcome;
 use engine::Engine;
 use explain::{ExplainFault, explain, explanations_name_earlier_grants};
 use log_text::LineBuffers;
-use model_base::Place;
+use model_base::{HashSeed, Place};
 use std::alloc::{AllocError, Global};
 use std::marker::Model;
 
@@ -57,6 +58,8 @@ impl Model for InOrder {
 /// Drops the versions of rows that no later place can read, where there are enough places since the last ones that were dropped.
 fn trim(engine: &mut Engine)
     ensures few { finished engine.new < engine.new.store.mark + SWEPT_PLACES }
+    ensures swept { engine.old.store.mark + SWEPT_PLACES ≤ finished engine.old
+        → IsSweptTo (finished engine.old) engine.old.store engine.new.store }
     ensures rest { engine.new ≡ record engine.old { store = engine.new.store } }
 {
     let end = engine.finished();
@@ -73,14 +76,13 @@ fn forget(engine: &mut Engine, keep: u64)
     ensures few { finished engine.new < engine.new.dropped + keep + max keep SWEPT_PLACES }
     ensures rest { engine.new ≡ record engine.old { dropped = engine.new.dropped } }
 {
-    let end = engine.finished();
-    let kept = end - engine.log().dropped();
-    if kept < keep || kept - keep < keep.max(SWEPT_PLACES) {
-        return;
-    }
     if keep == 0 {
         engine.forget();
-    } else {
+        return;
+    }
+    let end = engine.finished();
+    let kept = end - engine.log().dropped();
+    if kept >= keep && kept - keep >= keep.max(SWEPT_PLACES) {
         engine.forget_to(end - keep);
     }
 }
@@ -88,15 +90,15 @@ fn forget(engine: &mut Engine, keep: u64)
 impl InOrder {
     ghost use Rattle.fed_run.specs.Progress.{AppendsExplained, ReadsAndTakes};
 
-    /// Before the first line. It doesn't allocate.
-    pub(crate) fn new(alloc: Global) -> Self
+    /// Before the first line. Names, rows and grants are found under this seed. It doesn't allocate.
+    pub(crate) fn seeded(alloc: Global, seed: HashSeed) -> Self
         ensures log { result.run.log ≡ empty_log }
         ensures whole { IsWhole result.run.log }
         ensures reported { result.reported ≡ 0 }
         ensures waiting { result.waiting ≡ [] }
         ensures keep { result.keep ≡ 0 }
     {
-        let engine = Engine::new(alloc);
+        let engine = Engine::seeded(alloc, seed);
         let _finished = engine.finished();
         let _dropped = engine.log().dropped();
         InOrder {
