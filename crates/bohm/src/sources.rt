@@ -1,10 +1,13 @@
 //! Standard input and the files of the system, as sources of logs.
 
-ghost use Rattle.std.specs.Prelude.{None};
+ghost use Rattle.std.specs.Prelude.{◌≡◌, IsSome, None};
+ghost use Rattle.batched_text.specs.declared.settings.Arrival.{Arrival};
 
+use crate::failing::Reason;
 use crate::progress::ProgressStyle;
 use crate::watched::Watched;
-use command_line::{Source, Sources};
+use batched_text::Arrival;
+use command_line::{Opened, Source, Sources};
 use std::io::{Eprint, Read};
 use std::rt::{Clock, Files};
 use std::{fs, io};
@@ -25,16 +28,17 @@ impl<I: Read, F: Read> Read for SystemLog<I, F> {
     }
 }
 
-/// Standard input and the files of the system. How much of the log is read is shown in this way.
+/// Standard input and the files of the system. How much of the log is read is shown in this way, and why it can't be is noted.
 pub struct SystemSources<'a, R> {
     rt: &'a R,
     view: Option<ProgressStyle>,
+    reason: &'a Reason,
 }
 
 impl<'a, R> SystemSources<'a, R> {
     /// All sources of the system.
-    pub fn new(rt: &'a R, view: Option<ProgressStyle>) -> Self {
-        SystemSources { rt, view }
+    pub fn new(rt: &'a R, view: Option<ProgressStyle>, reason: &'a Reason) -> Self {
+        SystemSources { rt, view, reason }
     }
 }
 
@@ -46,24 +50,42 @@ fn size_of<R: Files>(rt: &R, path: &str) -> Option<u64> {
     }
 }
 
+/// How the bytes of a file arrive of which the size is known, or isn't.
+fn arrival_of(size: Option<u64>) -> Arrival
+    ensures stored { IsSome size → result ≡ Arrival.Stored }
+    ensures live { size ≡ None → result ≡ Arrival.Live }
+{
+    match size {
+        Some(_) => Arrival::Stored,
+        None => Arrival::Live,
+    }
+}
+
 impl<'a, R: Files + Input + Clock + Eprint> Sources for SystemSources<'a, R> {
     type Log = Watched<'a, R, SystemLog<R::Reader, R::File>>;
 
     // What the system has in its files is said by no clause.
     ghost bytes = { λ _ _. None };
 
+    ghost arrives = { λ _ path arrival. path ≡ None → arrival ≡ Arrival.Live };
+
     ghost refuses = { λ _ _. Unit {0} };
 
-    fn open(self, source: Source<'_>) -> io::Result<Self::Log> {
-        let SystemSources { rt, view } = self;
+    fn open(self, source: Source<'_>) -> io::Result<Opened<Self::Log>> {
+        let SystemSources { rt, view, reason } = self;
         match source {
             Source::StandardInput => {
-                let log = SystemLog::Input(rt.reader());
-                Ok(Watched::new(log, rt, view, None))
+                let input = SystemLog::Input(rt.reader());
+                let log = Watched::new(input, rt, view, None, reason);
+                let arrival = Arrival::Live;
+                Ok(Opened { log, arrival })
             }
             Source::File(path) => {
-                let log = SystemLog::File(fs::open(rt, path)?);
-                Ok(Watched::new(log, rt, view, size_of(rt, path)))
+                let file = SystemLog::File(fs::open(rt, path)?);
+                let size = size_of(rt, path);
+                let log = Watched::new(file, rt, view, size, reason);
+                let arrival = arrival_of(size);
+                Ok(Opened { log, arrival })
             }
         }
     }

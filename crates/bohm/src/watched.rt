@@ -1,7 +1,8 @@
-//! A reader that shows on standard error how much was read.
+//! A reader that shows on standard error how much was read, and notes why it failed.
 
 ghost use Rattle.std.specs.Prelude.{◌≡◌};
 
+use crate::failing::{Reason, note};
 use crate::progress::{ProgressStyle, Reached};
 use memchr::memchr_iter;
 use std::io;
@@ -14,11 +15,12 @@ const FIRST_MILLIS: u64 = 1000;
 /// Of this many reads the lines of one are counted: to count all would take longer than the hundredth part of a run.
 const SAMPLED_READS: u64 = 64;
 
-/// A reader. What was read is shown where there is a view, and in the end when the reader is dropped.
+/// A reader. What was read is shown where there is a view, and in the end when the reader is dropped. Why the last read failed is noted.
 pub struct Watched<'a, C: Clock + Eprint, R: Drop> {
     inner: R,
     rt: &'a C,
     view: Option<ProgressStyle>,
+    reason: &'a Reason,
     size: Option<u64>,
     reads: u64,
     bytes: u64,
@@ -44,7 +46,13 @@ fn millis_of(rt: &impl Clock) -> u64 {
 
 impl<'a, C: Clock + Eprint, R: Drop> Watched<'a, C, R> {
     /// Begins to watch a reader of this many bytes, where that is known.
-    pub fn new(inner: R, rt: &'a C, view: Option<ProgressStyle>, size: Option<u64>) -> Self
+    pub fn new(
+        inner: R,
+        rt: &'a C,
+        view: Option<ProgressStyle>,
+        size: Option<u64>,
+        reason: &'a Reason,
+    ) -> Self
         ensures { result.inner ≡ inner }
     {
         let begun = if view.is_some() { millis_of(rt) } else { 0 };
@@ -52,6 +60,7 @@ impl<'a, C: Clock + Eprint, R: Drop> Watched<'a, C, R> {
             inner,
             rt,
             view,
+            reason,
             size,
             reads: 0,
             bytes: 0,
@@ -120,7 +129,9 @@ impl<'a, C: Clock + Eprint, R: Read + Drop> Read for Watched<'a, C, R> {
     ghost remaining = { λ watched. R.remaining watched.inner };
 
     fn read(&mut self, buf: &mut [u8]) -> io::Result<usize> {
-        let count = self.inner.read(buf)?;
+        let answer = self.inner.read(buf);
+        note(self.reason, &answer);
+        let count = answer?;
         if let Some(view) = self.view {
             self.count(view, &buf[..count]);
         }
@@ -135,6 +146,7 @@ impl<'a, C: Clock + Eprint, R: Drop> Drop for Watched<'a, C, R> {
             inner: _inner,
             rt: _rt,
             view: _view,
+            reason: _reason,
             size: _size,
             reads: _reads,
             bytes: _bytes,

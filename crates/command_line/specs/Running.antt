@@ -3,6 +3,7 @@ use Rattle.std.specs.Prelude.{◌≡◌, ◌≤◌, ◌⊎◌, ℕ, Err, IsSome,
 use Rattle.report.specs.Report.{IsReport}
 use Rattle.audit_text.specs.Answer.{HasNoPlace, IsExplanation}
 use Rattle.audit_text.specs.Picture.{EndsBefore, IsPicture}
+use Rattle.batched_text.specs.declared.settings.Arrival.{Arrival}
 use Rattle.command_line.specs.Options.{IfGiven, place_named}
 use Rattle.command_line.specs.Ways.{is_alone}
 use Rattle.command_line.specs.Words.{path_of}
@@ -27,12 +28,12 @@ AnswersCommand (Command.Serial source) input text = IsReport input text
 AnswersCommand (Command.Explain source question) input text = IsExplanation input question text
 AnswersCommand (Command.Grants source limit) input text = IsPicture input (place_named limit) text
 
--- the log has no such place as a command asks about
-abbrev pub LacksPlace : Command → List ℕ → Type 0
-LacksPlace (Command.Run source settings ahead) input = ⊥
-LacksPlace (Command.Serial source) input = ⊥
-LacksPlace (Command.Explain source question) input = HasNoPlace input question.place
-LacksPlace (Command.Grants source limit) input = EndsBefore input (place_named limit)
+-- the log has so many places, and not the one that a command asks about
+abbrev pub LacksPlace : Command → ℕ → List ℕ → Type 0
+LacksPlace (Command.Run source settings ahead) places input = ⊥
+LacksPlace (Command.Serial source) places input = ⊥
+LacksPlace (Command.Explain source question) places input = HasNoPlace input question.place places
+LacksPlace (Command.Grants source limit) places input = EndsBefore input (place_named limit) places
 
 -- the end of a command's work, or of that on its log
 abbrev pub EndOf : Type 0 → Type 0
@@ -52,12 +53,14 @@ abbrev pub IsInOrder : Choice → Task → Type 0
 IsInOrder ahead task =
     (threads : ℕ) × ((threads ≤ MOST_AHEAD) × (IfGiven ahead (λ given. threads ≡ given) × (task ≡ Task.InOrder threads)))
 
--- the task that a command asks for: one worker and one partition run a log in order, and any other settings in batches
-abbrev pub IsTaskOf : Command → Task → Type 0
-IsTaskOf (Command.Run source settings ahead) task = MatchBool (is_alone settings) (IsInOrder ahead task) (task ≡ Task.InBatches settings)
-IsTaskOf (Command.Serial source) task = task ≡ Task.Slow
-IsTaskOf (Command.Explain source question) task = task ≡ Task.Explain question
-IsTaskOf (Command.Grants source limit) task = task ≡ Task.Picture limit
+-- the task that a command asks for, of a log whose bytes arrive so: one worker and one partition run it in order, and any other settings in
+-- batches
+abbrev pub IsTaskOf : Arrival → Command → Task → Type 0
+IsTaskOf arrival (Command.Run source settings ahead) task =
+    MatchBool (is_alone settings) (IsInOrder ahead task) (task ≡ Task.InBatches settings arrival)
+IsTaskOf arrival (Command.Serial source) task = task ≡ Task.Slow
+IsTaskOf arrival (Command.Explain source question) task = task ≡ Task.Explain question
+IsTaskOf arrival (Command.Grants source limit) task = task ≡ Task.Picture limit
 
 -- the fault says that a file can't be opened
 abbrev pub IsOpenFault : ProgramFault → Type 0
@@ -70,8 +73,10 @@ IsOpenFault (ProgramFault.Work fault) = ⊥
 abbrev pub IsUnopened : ProgramFault → Type 0
 IsUnopened fault = IsOpenFault fault ⊎ (fault ≡ ProgramFault.Work WorkFault.NoMemory)
 
--- the command was done by the task that it asks for, and ended as that did, or its file couldn't be opened
-abbrev pub DoesCommand : (Task → WorkAnswers) → Command → EndOf ProgramFault → Type 0
-DoesCommand answers command ended =
-    ((task : Task) × (IsTaskOf command task × ((answer : EndOf WorkFault) × (answers task answer × (ended ≡ of_work answer)))))
+-- the command was done by the task that it asks for, of a log whose bytes arrive as its source's may, and ended as that did, or its file
+-- couldn't be opened
+abbrev pub DoesCommand : (Task → WorkAnswers) → (Arrival → Type 0) → Command → EndOf ProgramFault → Type 0
+DoesCommand answers arrives command ended =
+    ((arrival : Arrival) × (arrives arrival × ((task : Task) × (IsTaskOf arrival command task
+    × ((answer : EndOf WorkFault) × (answers task answer × (ended ≡ of_work answer)))))))
     ⊎ (IsSome (path_in command) × (fault : ProgramFault) × (IsUnopened fault × (ended ≡ Err fault)))

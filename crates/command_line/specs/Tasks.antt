@@ -14,7 +14,7 @@ use Rattle.command_line.specs.declared.work.WorkFault.{WorkFault}
 -- the numbers of a task are within their limits
 abbrev pub TaskIsWithin : Task → Type 0
 TaskIsWithin (Task.InOrder threads) = threads ≤ MOST_AHEAD
-TaskIsWithin (Task.InBatches settings) = are_within_limits settings ≡ true
+TaskIsWithin (Task.InBatches settings arrival) = are_within_limits settings ≡ true
 TaskIsWithin Task.Slow = Unit {0}
 TaskIsWithin (Task.Explain question) = Unit {0}
 TaskIsWithin (Task.Picture limit) = Unit {0}
@@ -22,25 +22,28 @@ TaskIsWithin (Task.Picture limit) = Unit {0}
 -- the text answers a task about the bytes of its log
 abbrev pub AnswersTask : Task → List ℕ → List ℕ → Type 0
 AnswersTask (Task.InOrder threads) input text = IsReport input text
-AnswersTask (Task.InBatches settings) input text = IsReport input text
+AnswersTask (Task.InBatches settings arrival) input text = IsReport input text
 AnswersTask Task.Slow input text = IsReport input text
 AnswersTask (Task.Explain question) input text = IsExplanation input question text
 AnswersTask (Task.Picture limit) input text = IsPicture input (place_named limit) text
 
--- the log has no such place as a task names
-abbrev pub TaskLacksPlace : Task → List ℕ → Type 0
-TaskLacksPlace (Task.InOrder threads) input = ⊥
-TaskLacksPlace (Task.InBatches settings) input = ⊥
-TaskLacksPlace Task.Slow input = ⊥
-TaskLacksPlace (Task.Explain question) input = HasNoPlace input question.place
-TaskLacksPlace (Task.Picture limit) input = EndsBefore input (place_named limit)
+-- the log has so many places, and not the one that a task names
+abbrev pub TaskLacksPlace : Task → ℕ → List ℕ → Type 0
+TaskLacksPlace (Task.InOrder threads) places input = ⊥
+TaskLacksPlace (Task.InBatches settings arrival) places input = ⊥
+TaskLacksPlace Task.Slow places input = ⊥
+TaskLacksPlace (Task.Explain question) places input = HasNoPlace input question.place places
+TaskLacksPlace (Task.Picture limit) places input = EndsBefore input (place_named limit) places
+
+-- the work didn't end for want of a place
+abbrev pub LacksNoPlace : Result (Unit {0}) WorkFault → Type 0
+LacksNoPlace ended = (places : ℕ) → ended ≢ Err (WorkFault.NoSuchPlace places)
 
 -- a run never ends for want of a place, and only several workers end it because a thread could not be started
 abbrev pub MayAnswer : Task → Result (Unit {0}) WorkFault → Type 0
-MayAnswer (Task.InOrder threads) ended = (ended ≢ Err WorkFault.NoSuchPlace) × (ended ≢ Err WorkFault.Spawn)
-MayAnswer (Task.InBatches settings) ended =
-    (ended ≢ Err WorkFault.NoSuchPlace) × (settings.workers ≤ 1 → ended ≢ Err WorkFault.Spawn)
-MayAnswer Task.Slow ended = (ended ≢ Err WorkFault.NoSuchPlace) × (ended ≢ Err WorkFault.Spawn)
+MayAnswer (Task.InOrder threads) ended = LacksNoPlace ended × (ended ≢ Err WorkFault.Spawn)
+MayAnswer (Task.InBatches settings arrival) ended = LacksNoPlace ended × (settings.workers ≤ 1 → ended ≢ Err WorkFault.Spawn)
+MayAnswer Task.Slow ended = LacksNoPlace ended × (ended ≢ Err WorkFault.Spawn)
 MayAnswer (Task.Explain question) ended = ended ≢ Err WorkFault.Spawn
 MayAnswer (Task.Picture limit) ended = ended ≢ Err WorkFault.Spawn
 
@@ -57,4 +60,4 @@ abbrev pub of_audit : AuditFault → WorkFault
 of_audit AuditFault.NoMemory = WorkFault.NoMemory
 of_audit AuditFault.Read = WorkFault.Read
 of_audit AuditFault.Write = WorkFault.Write
-of_audit AuditFault.NoSuchPlace = WorkFault.NoSuchPlace
+of_audit (AuditFault.NoSuchPlace places) = WorkFault.NoSuchPlace places

@@ -1,8 +1,11 @@
 -- Which words of the command line are a command, and how the program ends: its exit status, and what it prints of a fault.
-use Rattle.std.specs.Prelude.{◌≡◌, ◌≢◌, ◌⊎◌, ℕ, List, Option, None, Some, bytes_eq, codes, if◌then◌else◌, option_and_then, option_map, string_bytes}
+use Rattle.std.specs.Prelude.{◌≡◌, ◌≢◌, ◌⊎◌, ◌++◌, ◌==◌, ℕ, List, Option, None, Some, bytes_eq, codes, if◌then◌else◌, option_and_then, option_map, string_bytes}
 use Rattle.std.specs.Option.{option_map_or}
+use Rattle.std.specs.Str.{trim_end}
 use Rattle.clap.specs.Words.{IsAmong, Kinds, Row, Text, first_of}
 use Rattle.clap.specs.declared.error.kind.ErrorKind.{ErrorKind}
+use Rattle.audit_text.specs.Faults.{audit_fault_text}
+use Rattle.audit_text.specs.declared.fault.AuditFault.{AuditFault}
 use Rattle.audit_text.specs.declared.question.Question.{Question}
 use Rattle.batched_text.specs.declared.settings.Settings.{Settings}
 use Rattle.bohm_base.specs.declared.command_line.ArgumentFault.{ArgumentFault}
@@ -11,6 +14,7 @@ use Rattle.command_line.specs.Ways.{IsWithin, way_among}
 use Rattle.command_line.specs.declared.command_words.Command.{Command}
 use Rattle.command_line.specs.declared.command_words.ProgramFault.{ProgramFault}
 use Rattle.command_line.specs.declared.command_words.Source.{Source}
+use Rattle.command_line.specs.declared.command_words.Stream.{Stream}
 use Rattle.command_line.specs.declared.command_words.Usage.{Usage}
 use Rattle.command_line.specs.declared.command_words.Verb.{Verb}
 use Rattle.command_line.specs.declared.options.Choice.{Choice}
@@ -41,20 +45,24 @@ status_of (ProgramFault.Usage Usage.NoMemory) = 1
 status_of (ProgramFault.Open text) = 1
 status_of (ProgramFault.Work fault) = 1
 
--- a fault of the work on a log has one line
+-- 0 is of what goes to standard output, and any other status of what goes to standard error
+abbrev pub stream_of : ProgramFault → Stream
+stream_of fault = if status_of fault == 0 then Stream.Output else Stream.Error
+
+-- a fault of the work on a log has one line; of a missing place it says which places the log has
 abbrev pub work_message : WorkFault → List ℕ
 work_message WorkFault.NoMemory = codes "bohm: out of memory"
 work_message WorkFault.Read = codes "bohm: cannot read"
 work_message WorkFault.Write = codes "bohm: cannot write"
-work_message WorkFault.NoSuchPlace = codes "bohm: no such place"
+work_message (WorkFault.NoSuchPlace places) = codes "bohm: " ++ audit_fault_text (AuditFault.NoSuchPlace places)
 work_message WorkFault.Spawn = codes "bohm: cannot start a worker"
 
--- the text of a fault
+-- the text of a fault, without white space at its end
 abbrev pub message_of : ProgramFault → List ℕ
 message_of (ProgramFault.Arguments ArgumentFault.NotUtf8) = codes "bohm: an argument isn't valid UTF-8"
 message_of (ProgramFault.Arguments ArgumentFault.NoMemory) = codes "bohm: out of memory"
-message_of (ProgramFault.Usage (Usage.Fault text)) = string_bytes text
-message_of (ProgramFault.Usage (Usage.Help text)) = string_bytes text
+message_of (ProgramFault.Usage (Usage.Fault text)) = trim_end (string_bytes text)
+message_of (ProgramFault.Usage (Usage.Help text)) = trim_end (string_bytes text)
 message_of (ProgramFault.Usage Usage.OutsideLimits) = codes "bohm: bad settings"
 message_of (ProgramFault.Usage Usage.NoMemory) = codes "bohm: out of memory"
 message_of (ProgramFault.Open text) = string_bytes text

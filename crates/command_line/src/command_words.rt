@@ -1,10 +1,10 @@
 //! The words of the command line, and how a run of the program ends.
 
-ghost use Rattle.std.specs.Prelude.{◌≡◌, ◌⊎◌, [], Err, IfOk, IfErr, IfSome, OnOk};
+ghost use Rattle.std.specs.Prelude.{◌≡◌, ◌⊎◌, [], Err, IfOk, IfErr, IfSome, OnOk, codes, unwrap_or};
 ghost use Rattle.std.specs.Option.{option_map};
 ghost use Rattle.clap.specs.Words.{fault_of, found_of, kind_of, rows_of, subcommand_of, subcommand_rows_of};
 ghost use Rattle.command_line.specs.Shapes.{bohm_app, texts_of};
-ghost use Rattle.command_line.specs.Words.{Asks, AsksOutsideLimits, IsWithinLimits, TellsError, TellsOneOf, asked, asked_by, asked_in, message_of, path_named, path_of, progress_in, status_of, verb_named};
+ghost use Rattle.command_line.specs.Words.{Asks, AsksOutsideLimits, IsWithinLimits, TellsError, TellsOneOf, asked, asked_by, asked_in, message_of, path_named, path_of, progress_in, status_of, stream_of, verb_named};
 
 use crate::options::{Choice, Limit, Progress, limit_of, progress_of, question_of, way_of};
 use crate::subcommands::program;
@@ -15,6 +15,7 @@ use bohm_base::ArgumentFault;
 use clap::error::ErrorKind;
 use clap::{ArgMatches, Error};
 use std::alloc::Global;
+use std::fmt;
 
 /// Where a log is read from.
 #[derive(Clone, Copy)]
@@ -22,6 +23,18 @@ pub enum Source<'a> {
     StandardInput,
     /// The file of this path.
     File(&'a str),
+}
+
+impl<'a> Source<'a> {
+    /// What it is called in a message: the path of its file, and `-` of standard input.
+    pub fn name(self) -> &'a str
+        ensures { result.now ≡ unwrap_or (path_of self.entry) (codes "-") }
+    {
+        match self {
+            Source::StandardInput => "-",
+            Source::File(path) => path,
+        }
+    }
 }
 
 /// What the program is asked to do.
@@ -95,6 +108,36 @@ pub enum ProgramFault {
     Open(String),
     /// The work on the log failed.
     Work(WorkFault),
+}
+
+/// Where a text goes.
+#[derive(Clone, Copy)]
+pub enum Stream {
+    /// To standard output.
+    Output,
+    /// To standard error.
+    Error,
+}
+
+impl fmt::Display for ProgramFault {
+    ghost use Rattle.std.specs.Prelude.{Some};
+
+    ghost output = { λ fault. Some (message_of fault) };
+
+    fn fmt<W: fmt::Write>(&self, f: &mut fmt::Formatter<W>) -> fmt::Result {
+        match self {
+            ProgramFault::Arguments(ArgumentFault::NotUtf8) => {
+                f.write_str("bohm: an argument isn't valid UTF-8")
+            }
+            ProgramFault::Arguments(ArgumentFault::NoMemory) => f.write_str("bohm: out of memory"),
+            ProgramFault::Usage(Usage::Fault(text)) => f.write_str(text.as_str().trim_end()),
+            ProgramFault::Usage(Usage::Help(text)) => f.write_str(text.as_str().trim_end()),
+            ProgramFault::Usage(Usage::OutsideLimits) => f.write_str("bohm: bad settings"),
+            ProgramFault::Usage(Usage::NoMemory) => f.write_str("bohm: out of memory"),
+            ProgramFault::Open(text) => f.write_str(text.as_str()),
+            ProgramFault::Work(fault) => write!(f, "{fault}"),
+        }
+    }
 }
 
 /// The usage fault, or the help, that the words result in.
@@ -213,25 +256,17 @@ pub fn read_words<'a>(alloc: Global, words: &'a [&'a str]) -> Result<Request<'a>
     }
 }
 
-/// The exit status of a fault, and the text to print: on standard output where the status is 0, else on standard error.
-pub fn ending(fault: &ProgramFault) -> (u8, &str)
+/// The exit status of a fault, and where its text goes.
+pub fn ending(fault: &ProgramFault) -> (u8, Stream)
     ensures status { result.0 ≡ status_of fault.now }
-    ensures text { result.1.now ≡ message_of fault.now }
+    ensures stream { result.1 ≡ stream_of fault.now }
 {
     match fault {
-        ProgramFault::Arguments(ArgumentFault::NotUtf8) => {
-            (2, "bohm: an argument isn't valid UTF-8")
-        }
-        ProgramFault::Arguments(ArgumentFault::NoMemory) => (1, "bohm: out of memory"),
-        ProgramFault::Usage(Usage::Fault(text)) => (2, text.as_str()),
-        ProgramFault::Usage(Usage::Help(text)) => (0, text.as_str()),
-        ProgramFault::Usage(Usage::OutsideLimits) => (1, "bohm: bad settings"),
-        ProgramFault::Usage(Usage::NoMemory) => (1, "bohm: out of memory"),
-        ProgramFault::Open(text) => (1, text.as_str()),
-        ProgramFault::Work(WorkFault::NoMemory) => (1, "bohm: out of memory"),
-        ProgramFault::Work(WorkFault::Read) => (1, "bohm: cannot read"),
-        ProgramFault::Work(WorkFault::Write) => (1, "bohm: cannot write"),
-        ProgramFault::Work(WorkFault::NoSuchPlace) => (1, "bohm: no such place"),
-        ProgramFault::Work(WorkFault::Spawn) => (1, "bohm: cannot start a worker"),
+        ProgramFault::Arguments(ArgumentFault::NotUtf8) => (2, Stream::Error),
+        ProgramFault::Arguments(ArgumentFault::NoMemory) => (1, Stream::Error),
+        ProgramFault::Usage(Usage::Fault(_)) => (2, Stream::Error),
+        ProgramFault::Usage(Usage::Help(_)) => (0, Stream::Output),
+        ProgramFault::Usage(Usage::OutsideLimits | Usage::NoMemory) => (1, Stream::Error),
+        ProgramFault::Open(_) | ProgramFault::Work(_) => (1, Stream::Error),
     }
 }

@@ -3,7 +3,7 @@
 //! `read_words` reads words as a `Command` with its source and settings, each within its limits, or returns the text of
 //! a usage fault, of the help or of the version. `do_command` opens the source and has a `Job` do the `Task` that the
 //! command asks for; it returns what that returned, or that the file couldn't be opened. `ending` gives the exit status
-//! and the line of a fault. `options.rt` has each option with its limits and default.
+//! of a fault and where its text goes, which is what it displays. `options.rt` has each option with its limits and default.
 #![tactic(auto)]
 
 mod command_words;
@@ -13,8 +13,10 @@ mod sources;
 mod subcommands;
 mod work;
 
-pub use command_words::{Command, ProgramFault, Request, Source, Usage, ending, read_words};
+pub use command_words::{
+    Command, ProgramFault, Request, Source, Stream, Usage, ending, read_words,
+};
 pub use options::{Choice, Limit, Progress};
 pub use running::do_command;
-pub use sources::Sources;
+pub use sources::{Opened, Sources};
 pub use work::{Job, SeededJob, Task, WorkFault};

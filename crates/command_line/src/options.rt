@@ -42,7 +42,7 @@ const BATCH: NumberOption = NumberOption {
     name: "batch",
     least: 1,
     most: MOST_BATCH_STATEMENTS,
-    help: "How many accepted statements a batch has at most, 1 to 65536; of use beside --workers or --partitions",
+    help: "How many accepted statements a batch has, 1 to 65536; fewer where FILE isn't a regular file and has no more yet; of use beside --workers or --partitions",
 };
 
 const KEEP: NumberOption = NumberOption {

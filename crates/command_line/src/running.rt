@@ -1,6 +1,6 @@
 //! Does what a command asks for with its log, and says how that ended.
 
-ghost use Rattle.std.specs.Prelude.{◌≡◌, ◌≤◌, ◌<◌, ◌-◌, ◌^◌, Err, IfErr, IfOk, IfSome, IsSome, OnErr, OnOk, true};
+ghost use Rattle.std.specs.Prelude.{◌≡◌, ◌≤◌, ◌<◌, ◌-◌, ◌^◌, ℕ, Err, IfErr, IfOk, IfSome, IsSome, OnErr, OnOk, true};
 ghost use Rattle.line_io.specs.Known.{raised};
 ghost use Rattle.audit_text.specs.Texts.{BeginsText, WritesText};
 ghost use Rattle.command_line.specs.Options.{IfGiven};
@@ -10,8 +10,9 @@ ghost use Rattle.command_line.specs.Words.{IsWithinLimits};
 
 use crate::command_words::{Command, ProgramFault, Source};
 use crate::options::{Choice, MOST_AHEAD, is_alone};
-use crate::sources::Sources;
+use crate::sources::{Opened, Sources};
 use crate::work::{Job, Task, WorkFault};
+use batched_text::Arrival;
 use line_io::Counted;
 use std::alloc::Global;
 use std::io::{Read, Write};
@@ -45,17 +46,17 @@ fn ahead_by<R: Threads>(rt: &R, choice: Choice) -> u64
     }
 }
 
-/// The task that a command asks for.
-fn task_of<R: Threads>(rt: &R, command: Command<'_>) -> Task
+/// The task that a command asks for, of a log whose bytes arrive so.
+fn task_of<R: Threads>(rt: &R, command: Command<'_>, arrival: Arrival) -> Task
     requires { IsWithinLimits command }
-    ensures task { IsTaskOf command.entry result }
+    ensures task { IsTaskOf arrival command.entry result }
     ensures within { TaskIsWithin result }
 {
     match command {
         Command::Run(_, settings, ahead) if is_alone(&settings) => {
             Task::InOrder(ahead_by(rt, ahead))
         }
-        Command::Run(_, settings, _) => Task::InBatches(settings),
+        Command::Run(_, settings, _) => Task::InBatches(settings, arrival),
         Command::Serial(_) => Task::Slow,
         Command::Explain(_, question) => Task::Explain(question),
         Command::Grants(_, limit) => Task::Picture(limit),
@@ -66,10 +67,7 @@ fn task_of<R: Threads>(rt: &R, command: Command<'_>) -> Task
 fn open_fault(alloc: Global, source: Source<'_>, error: &io::Error) -> ProgramFault
     ensures { IsUnopened result }
 {
-    let path = match source {
-        Source::StandardInput => "-",
-        Source::File(path) => path,
-    };
+    let path = source.name();
     match format!(in alloc; "bohm: cannot open {path}: {error}") {
         Ok(text) => ProgramFault::Open(text),
         Err(_) => ProgramFault::Work(WorkFault::NoMemory),
@@ -81,14 +79,18 @@ fn open_log<L: Sources>(
     alloc: Global,
     sources: L,
     command: &Command<'_>,
-) -> Result<Counted<L::Log>, ProgramFault>
-    ensures bytes { IfOk result (λ log. L.Log.remaining log.inner ≡ L.bytes sources (path_in command.now)) }
+) -> Result<Opened<Counted<L::Log>>, ProgramFault>
+    ensures bytes { IfOk result (λ opened. L.Log.remaining opened.log.inner ≡ L.bytes sources (path_in command.now)) }
+    ensures arrival { IfOk result (λ opened. L.arrives sources (path_in command.now) opened.arrival) }
     ensures refused { OnErr result (L.refuses sources (path_in command.now)) }
     ensures input { OnErr result (IsSome (path_in command.now)) }
     ensures fault { IfErr result IsUnopened }
 {
     match sources.open(command.source()) {
-        Ok(log) => Ok(Counted::new(log)),
+        Ok(Opened { log, arrival }) => {
+            let log = Counted::new(log);
+            Ok(Opened { log, arrival })
+        }
         Err(error) => Err(open_fault(alloc, command.source(), &error)),
     }
 }
@@ -107,16 +109,16 @@ pub fn do_command<J: Job, L: Sources, T: Threads + Wait + Sync, W: Write>(
     told: &mut Counted<W>,
 ) -> Result<(), ProgramFault>
     requires within { IsWithinLimits command }
-    ensures does { DoesCommand (J.answers job.now) command.entry result }
+    ensures does { DoesCommand (J.answers job.now) (L.arrives sources (path_in command.entry)) command.entry result }
 
     // What was written is what answers the command about the bytes of the source that it names, and after a fault a beginning of that.
     ensures done { OnOk result (WritesText (AnswersCommand command.entry) (L.bytes sources (path_in command.entry))
         (W.contents told.old.inner) (W.contents told.new.inner)) }
     ensures begun { BeginsText (AnswersCommand command.entry) (L.bytes sources (path_in command.entry))
         (W.contents told.old.inner) (W.contents told.new.inner) }
-    // NoSuchPlace comes only where the log of the source has no such place, and nothing is written then.
-    ensures none { result ≡ Err (ProgramFault.Work WorkFault.NoSuchPlace)
-        → (told.new ≡ told.old) × IfSome (L.bytes sources (path_in command.entry)) (LacksPlace command.entry) }
+    // NoSuchPlace comes only where the log of the source has that many places and not this one, and nothing is written then.
+    ensures none { (places : ℕ) → result ≡ Err (ProgramFault.Work (WorkFault.NoSuchPlace places))
+        → (told.new ≡ told.old) × IfSome (L.bytes sources (path_in command.entry)) (LacksPlace command.entry places) }
     // Ok says that the writer didn't fail, and that it was flushed, once, and not written to since.
     ensures whole { OnOk result (told.new.errors ≡ told.old.errors) }
     ensures flushed { OnOk result ((told.new.flushes ≡ raised told.old.flushes) × (told.new.is_flushed ≡ true)) }
@@ -125,11 +127,11 @@ pub fn do_command<J: Job, L: Sources, T: Threads + Wait + Sync, W: Write>(
     ensures write { result ≡ Err (ProgramFault.Work WorkFault.Write) → told.old.errors < 2 ^ 64 - 1
         → told.old.errors < told.new.errors }
 {
-    let mut log = match open_log(alloc, sources, &command) {
-        Ok(log) => log,
+    let Opened { mut log, arrival } = match open_log(alloc, sources, &command) {
+        Ok(opened) => opened,
         Err(fault) => return Err(fault),
     };
-    let task = task_of(rt, command);
+    let task = task_of(rt, command, arrival);
     match job.work(rt, alloc, task, &mut log, told) {
         Ok(()) => Ok(()),
         Err(fault) => Err(ProgramFault::Work(fault)),

@@ -1,0 +1,20 @@
+-- What is said of a fault after its text.
+use Rattle.std.specs.Prelude.{◌≡◌, ◌⊎◌, ◌++◌, ℕ, List, [], codes}
+use Rattle.command_line.specs.declared.command_words.ProgramFault.{ProgramFault}
+use Rattle.command_line.specs.declared.work.WorkFault.{WorkFault}
+
+-- nothing, or some words, and then a reason behind a colon
+abbrev pub MayGiveReason : List ℕ → List ℕ → Type 0
+MayGiveReason words text = (text ≡ []) ⊎ ((reason : List ℕ) × (text ≡ words ++ codes ": " ++ reason))
+
+-- what follows the text of a fault: where a log can't be read its name and a reason, where a report can't be written a reason, if the
+-- reason is known, and nothing otherwise
+abbrev pub FollowsFault : ProgramFault → List ℕ → List ℕ → Type 0
+FollowsFault (ProgramFault.Work WorkFault.Read) name text = MayGiveReason (codes " " ++ name) text
+FollowsFault (ProgramFault.Work WorkFault.Write) name text = MayGiveReason [] text
+FollowsFault (ProgramFault.Work WorkFault.NoMemory) name text = text ≡ []
+FollowsFault (ProgramFault.Work (WorkFault.NoSuchPlace places)) name text = text ≡ []
+FollowsFault (ProgramFault.Work WorkFault.Spawn) name text = text ≡ []
+FollowsFault (ProgramFault.Arguments fault) name text = text ≡ []
+FollowsFault (ProgramFault.Usage usage) name text = text ≡ []
+FollowsFault (ProgramFault.Open line) name text = text ≡ []
