@@ -1,18 +1,15 @@
-//! What is left when words are closed and their batch is finished, also after a pass that is dropped with words stored.
+//! What is left when words are closed and their batch is finished.
 
-ghost use Rattle.std.specs.Prelude.{◌≡◌, ◌<◌, ◌≤◌, ℕ, length, slice_index};
+ghost use Rattle.std.specs.Prelude.{◌<◌, ◌≤◌, ℕ, length, slice_index};
 ghost use Rattle.words.specs.Passes.{IsPassOf};
 
 use crate::opening::Call;
 use crate::steps::print_row;
 use crate::telling::{NO_MEMORY, Teller};
 use filling::{CompletedBatch, RangeKey, finish};
-use filling_base::{Batch, Fills};
+use filling_base::Batch;
 use trials_base::{Attempt, TrialFault};
-use words::{
-    BatchData, Claimed, Closed, Holding, Pass, Seen, own_events_tell_what_is_held,
-    passes_keep_what_they_know,
-};
+use words::{BatchData, Closed, Pass};
 
 /// Prints the claims of this many places when their words are closed, and the own words of each and the grants that it ended when the batch
 /// is finished after them.
@@ -61,31 +58,4 @@ pub fn try_closed<R: Print>(
         Err(_) if steps.is_empty() => Err(Call::Finish),
         Err(_) => Ok(Err(NO_MEMORY)),
     }
-}
-
-/// Takes the first place by a pass that stores its first two own words, as another batch of the same places has them, and is dropped.
-/// Returns whether it could.
-pub fn store_two<K: Fills>(batch: &Batch<K>, pass: Pass, other: &Batch<K>, done: Pass) -> bool
-    requires pass { IsPassOf batch.now pass }
-    requires done { IsPassOf other.now done }
-    requires same { K.batch other.now.key ≡ K.batch batch.now.key }
-{
-    passes_keep_what_they_know();
-    own_events_tell_what_is_held();
-    let _places = batch.key().places();
-    let count = batch.key().words_length(0).min(2);
-    let (done, _tried) = other.try_run(done, 0);
-    let mut known = Holding::begin(done);
-    let mut holding = Holding::begin(pass);
-    if !holding.knows_placed() || other.words().look(&mut known, 0) != Seen::Done {
-        return false;
-    }
-    if batch.words().claim(&mut holding, 0) != Claimed::Won {
-        return false;
-    }
-    for number in 0..count {
-        let word = other.words().own(&mut known, 0, number);
-        batch.words().fill(&mut holding, 0, number, word);
-    }
-    true
 }

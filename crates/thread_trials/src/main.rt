@@ -4,6 +4,7 @@
 //! that is refused memory is made again, once it is printed whether all is as before. What is printed is compared with `stdout`.
 #![tactic(auto)]
 
+mod by_hand;
 mod calls;
 mod closing;
 mod events;

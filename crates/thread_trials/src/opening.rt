@@ -1,6 +1,8 @@
 //! Places of a log as a batch on shared words.
 
 ghost use Rattle.std.specs.Prelude.{◌≡◌, ◌<◌, ◌≤◌, ◌-◌, IfOk, length, true};
+ghost use Rattle.log_batch.specs.Listing.{listed_slots};
+ghost use Rattle.log_batch.specs.Supplied.{batch_of};
 ghost use Rattle.words.specs.Passes.{IsPassOf};
 ghost use Rattle.filling.specs.Placers.{IsPlacerIn, placer_front};
 ghost use Rattle.workers.specs.Placing.{HavePlaced};
@@ -62,6 +64,7 @@ pub fn placed<'a>(
       partitions = partitions;
       placed = true;
     }) }
+    ensures slots { IfOk result (λ made. made.0.key.slots ≡ listed_slots (batch_of made.0.key.batch)) }
 {
     let Ok(batch) = new_batch(alloc, log, before, first..log.len(), partitions) else {
         return Err(Call::Place);

@@ -1,6 +1,6 @@
 //! What steps ask of a place beside what any batch says.
 
-ghost use Rattle.std.specs.Prelude.{◌<◌};
+ghost use Rattle.std.specs.Prelude.{◌≡◌, ◌<◌};
 ghost use Rattle.words.specs.Passes.{IsPassOf};
 
 use filling::{Ran, RangeKey, outcome, run_place};
@@ -12,7 +12,8 @@ use words::Pass;
 /// A batch of places of a log.
 pub trait Places: Fills {
     /// The place of the log of index 0.
-    fn first(&self) -> Place;
+    fn first(&self) -> Place
+        ensures { result ≡ (Self.batch self.now).first };
 
     /// The outcome of a place, if it is done.
     fn outcome(

@@ -14,7 +14,7 @@ pub enum Kind {
     Row,
     /// And then the words are closed and the batch is finished.
     Close,
-    /// The same after a pass that stored two words and was dropped.
+    /// The same after a pass that stored words of a place that it held and was dropped.
     Stored,
     /// Threads claim all places.
     Claims,

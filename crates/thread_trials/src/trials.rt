@@ -5,7 +5,8 @@ ghost use Rattle.words.specs.Passes.{IsPassOf};
 ghost use Rattle.workers.specs.Placing.{HavePlaced};
 ghost use Rattle.engine.specs.RunState.{IsRunState};
 
-use crate::closing::{store_two, try_closed};
+use crate::by_hand::{parse_storing, print_storing};
+use crate::closing::try_closed;
 use crate::machine::try_machine;
 use crate::opening::{Call, opened, placed};
 use crate::places::Places;
@@ -75,7 +76,7 @@ fn try_placed<R: Threads + Wait + Print + Sync>(
     Ok(try_batch(teller, &batch, pass, none, section).map(|_| ()))
 }
 
-/// Makes the steps of a trial and finishes the batch, after a pass that stored two words of the first place and was dropped.
+/// Makes the steps of a trial and finishes the batch, after a pass that held a place stored words of it, or all, and was dropped.
 fn try_stored<R: Print>(
     teller: &Teller<'_, R>,
     log: &WholeLog,
@@ -88,13 +89,16 @@ fn try_stored<R: Print>(
     requires within { section.now.first < length log.now.statements }
     requires before { IsRunState log.now.statements section.now.first before.now.chains before.now.book }
 {
+    let (row, steps) = match parse_storing(section.steps) {
+        Ok(found) => found,
+        Err(fault) => return Ok(Err(fault)),
+    };
     let (other, done) = placed(teller.alloc, log, before, section.first, partitions)?;
     let (batch, pass) = placed(teller.alloc, log, before, section.first, partitions)?;
-    let (pass, dropped) = batch.split(pass);
-    if !store_two(&batch, dropped, &other, done) {
-        return Ok(Err(TrialFault::Call));
+    match print_storing(teller, &batch, pass, &other, done, &row) {
+        Ok(pass) => try_closed(teller, batch, pass, steps),
+        Err(fault) => Ok(Err(fault)),
     }
-    try_closed(teller, batch, pass, section.steps)
 }
 
 /// Makes a trial on a batch while it is placed, and rounds each on a batch of its own.

@@ -5,7 +5,7 @@ use crate::counting::Counting;
 use crate::driver::Call;
 use explain::{are_sound, explain_needs};
 use grants::{Book, BookView, Holder, Records, denial, holds, holds_option, last_loss, to_end};
-use model_base::{Grantee, Kind, Need, Place, RecordName, Revocation, Table, User};
+use model_base::{Grant, Grantee, Kind, Need, Place, RecordName, Revocation, Table, User};
 use std::alloc::{AllocError, Global};
 use trials_base::{Attempt, TABLE, TrialFault, beside, grant_of, revocation_of};
 
@@ -154,7 +154,14 @@ fn lines_text(
     beside(format!(in alloc; "{lines:?}, sound: {sound}"))
 }
 
-/// Makes deeds: `new`; `table PLACE`, of user 0; `grant` and `option PLACE USER USER`; `extend PLACE`; `cut PLACE`.
+/// The grant of an option by the user before that of the number that is its place.
+fn passed_on(place: Place) -> Grant {
+    let user = u32::try_from(place).unwrap_or(u32::MAX);
+    grant_of(place, (user.saturating_sub(1), user), true)
+}
+
+/// Makes deeds: `new`; `table PLACE`, of user 0; `grant` and `option PLACE USER USER`; `pass PLACE`, an option from the user before that
+/// number to it; `extend PLACE`; `cut PLACE`.
 fn change(alloc: Global, both: &mut Both, call: &Call<'_>) -> Attempt<()> {
     let place = call.number(0);
     match call.verb {
@@ -162,6 +169,7 @@ fn change(alloc: Global, both: &mut Both, call: &Call<'_>) -> Attempt<()> {
         "table" => return both.enter(place),
         "grant" => return both.give(&grant_of(place, users_of(call), false)),
         "option" => return both.give(&grant_of(place, users_of(call), true)),
+        "pass" => return both.give(&passed_on(place)),
         "extend" => return both.extend(alloc, place),
         "cut" => both.cut(place),
         _ => return Err(TrialFault::NotText),
@@ -183,6 +191,46 @@ fn revoke(alloc: Global, both: &mut Both, place: Place, users: (u32, u32)) -> At
     beside(format!(in alloc; "ends {ended}"))
 }
 
+/// Makes a deed of two of five users that a number draws: a revocation, or a grant if its grantor may make it. Then asks for a need of its
+/// grantee.
+fn draw(alloc: Global, both: &mut Both, place: Place, number: u64) -> Attempt<()> {
+    let users = ((number % 5) as u32, (number / 5 % 5) as u32);
+    let (deed, option) = (number / 25 % 4, number / 100 % 2 == 1);
+    if deed == 0 {
+        both.take(alloc, &revocation_of(place, users))?;
+    } else if let Err(fault) = both.give(&grant_of(place, users, deed > 1)) {
+        if fault != TrialFault::Call {
+            return Err(fault);
+        }
+    }
+    let need = Need {
+        table: TABLE,
+        kind: Kind::Read,
+        option,
+    };
+    counted_need(alloc, both, place.saturating_add(1), User(users.1), &need)?;
+    expect(both.are_same())
+}
+
+/// Makes deeds at places from 1 on that a seed draws, by D. E. Knuth's linear congruential generator, and says what records there are:
+/// `SEED DEEDS`.
+fn draw_deeds(alloc: Global, both: &mut Both, call: &Call<'_>) -> Attempt<String> {
+    let mut drawn = call.number(0);
+    for place in 1..=call.number(1) {
+        drawn = drawn
+            .wrapping_mul(6_364_136_223_846_793_005)
+            .wrapping_add(1_442_695_040_888_963_407);
+        draw(alloc, both, place, drawn >> 33)?;
+    }
+    let ended = both
+        .book
+        .records()
+        .iter()
+        .filter(|record| record.end.is_some())
+        .count();
+    beside(format!(in alloc; "{} records, {ended} ended", both.book.records().len()))
+}
+
 /// Asks of both books, which have to say the same, but for `lines`.
 fn answer(alloc: Global, both: &Both, call: &Call<'_>) -> Attempt<String> {
     let (place, user) = (call.number(0), User(call.count(1)));
@@ -194,11 +242,12 @@ fn answer(alloc: Global, both: &Both, call: &Call<'_>) -> Attempt<String> {
     }
 }
 
-/// A change; `revoke PLACE USER USER`, and of one that isn't made `ends`; `need PLACE USER KIND`, with `OPTION` or without; `lines
-/// PLACE USER KIND`, of the book alone; `view PLACE USER USER`.
+/// A change; `revoke PLACE USER USER`, and of one that isn't made `ends`; `draw SEED DEEDS`; `need PLACE USER KIND`, with `OPTION` or
+/// without; `lines PLACE USER KIND`, of the book alone; `view PLACE USER USER`.
 pub fn make(alloc: Global, both: &mut Both, call: &Call<'_>) -> Attempt<String> {
     match call.verb {
         "revoke" => revoke(alloc, both, call.number(0), users_of(call)),
+        "draw" => draw_deeds(alloc, both, call),
         "ends" | "view" | "need" | "lines" => answer(alloc, both, call),
         _ => {
             change(alloc, both, call)?;

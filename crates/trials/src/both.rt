@@ -52,12 +52,12 @@ fn names_text(alloc: Global, names: &[RecordName]) -> Attempt<String> {
     beside(format!(in alloc; "{names:?}"))
 }
 
-/// The names of records, which have to be those that the plain book ends.
+/// The places of records, whose names have to be those that the plain book ends.
 pub fn agreed_names(alloc: Global, names: &[RecordName], others: &[RecordName]) -> Attempt<String> {
-    let text = names_text(alloc, names)?;
-    let other = names_text(alloc, others)?;
-    expect(text == other)?;
-    Ok(text)
+    expect(names_text(alloc, names)? == names_text(alloc, others)?)?;
+    let places = names.iter().map(|name| name.place);
+    let places = beside(places.collect::<Vec<Place>>(alloc))?;
+    beside(format!(in alloc; "{places:?}"))
 }
 
 impl Both {

@@ -9,7 +9,7 @@ use batched_text::{Settings, run_text};
 use engine::{Crew, Engine, EngineFault};
 use explain::{check, explain};
 use line_io::Counted;
-use log_text::{RawStatement, parse_line, print_statement};
+use log_text::{RawStatement, Version, parse_line, parse_line_in, print_statement};
 use model::serial;
 use model_base::{HashSeed, Key, Place, Table};
 use std::alloc::{AllocError, Global};
@@ -24,9 +24,9 @@ fn statement_of<'a>(alloc: Global, line: &'a str) -> Attempt<RawStatement<'a>> {
     beside(parse_line(alloc, line.as_bytes()))
 }
 
-/// Whose statement a line is.
-fn user_of(alloc: Global, line: &str) -> Attempt<String> {
-    let statement = parse_line(alloc, line.as_bytes())?;
+/// Whose statement a line of a version is.
+fn user_of(alloc: Global, version: Version, line: &str) -> Attempt<String> {
+    let statement = parse_line_in(alloc, version, line.as_bytes())?;
     beside(format!(in alloc; "by {}", statement.user()))
 }
 
@@ -161,7 +161,8 @@ fn finished_text(alloc: Global, engine: &Engine) -> Result<String, AllocError> {
 }
 
 /// `push LINE`; `run START END WORKERS PARTITIONS`; `gated START END WORKERS PARTITIONS HELD PLACE`; `log FILE WORKERS PARTITIONS
-/// BATCH KEEP`; `fail READS WRITES FLUSHES`; `serial`; of a line alone `parse LINE` and `print LINE`; or a change, or a question.
+/// BATCH KEEP`; `fail READS WRITES FLUSHES`; `serial`; of a line alone `parse LINE`, `print LINE`, and by version 2 `second LINE`; or a
+/// change, or a question.
 pub fn make<R: Files + Threads + Wait + Sync>(
     rt: &R,
     alloc: Global,
@@ -175,7 +176,8 @@ pub fn make<R: Files + Threads + Wait + Sync>(
         "log" => run_file(rt, alloc, engine, call),
         "fail" => failing(rt, alloc, call),
         "serial" => slow_outcomes(alloc, engine),
-        "parse" => user_of(alloc, call.rest),
+        "parse" => user_of(alloc, Version::One, call.rest),
+        "second" => user_of(alloc, Version::Two, call.rest),
         "print" => printed(alloc, call.rest),
         "new" | "trim" | "sweep" | "forget" => change(alloc, engine, call),
         _ => answer(alloc, engine, call),
