@@ -45,18 +45,8 @@ fn write_answer<W: Write>(
     Ok(())
 }
 
-/// Reads a log up to the line of a place, or to its end where it hasn't the place, and runs what it read; then it writes why the place
-/// was admitted or denied: the report's line for the place, then a line for each need of its statement up to the first that isn't held,
-/// as `audit_text` spells it, and `checked` where that is asked. Then the writer is flushed. The log's report isn't made. Maps find their
-/// keys under `seed`.
-///
-/// What comes after the place's line changes nothing of its explanation. It isn't taken, and the reader isn't asked for more once that line
-/// is available: a reader that fails later is never met. Names, rows and grants are kept, and of statements and outcomes those of one
-/// batch.
-///
-/// `NoSuchPlace` comes only where the log has no such place, with the number of its places, `NoMemory` where a growth was refused, `Read`
-/// where the reader failed, `Write` where the writer failed, or took no byte of a piece that wasn't empty. After `Write` a beginning of the
-/// answer is written, and after any other fault nothing was written.
+/// Runs a log up to a place, and writes why that was admitted or denied: its line of the report, then one for each need, and `checked`
+/// where asked. What comes after the place's line isn't taken.
 pub fn explain_text<R: Read, W: Write>(
     alloc: Global,
     reader: &mut Counted<R>,

@@ -61,14 +61,8 @@ fn write_picture<W: Write>(
     Ok(())
 }
 
-/// Reads a log up to the line of a place, or to its end where none is named or it hasn't the place, and runs what it read; then it
-/// writes the grants in force before the place, or at the end where none is named, as a digraph of Graphviz, as `audit_text` spells
-/// it. Then the writer is flushed. The log's report isn't made. What comes after the place's line isn't taken, as in `explain_text`. Maps
-/// find their keys under `seed`.
-///
-/// `NoSuchPlace` comes only where the log ends before the place, with the number of its places, `NoMemory` where a growth was refused,
-/// `Read` where the reader failed, `Write` where the writer failed, or took no byte of a piece that wasn't empty. After `Write` a beginning
-/// of the picture is written, and after any other fault nothing was written.
+/// Runs a log up to a place, or to its end, and writes the grants in force before it as a digraph of Graphviz. What comes after the place's
+/// line isn't taken.
 pub fn grants_text<R: Read, W: Write>(
     alloc: Global,
     reader: &mut Counted<R>,

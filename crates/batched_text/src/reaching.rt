@@ -145,15 +145,8 @@ fn run_until<R: Read>(
     Ok(())
 }
 
-/// Reads a log up to the line of a place, or to its end where it hasn't the place or none is named; runs what it read in order, in
-/// batches of 1,024 places; and makes no report. It returns the engine with the log up to there, all of it finished. Of its
-/// statements and outcomes those of the last batch are kept, the named place's among them, and no rows before its end. It starts no thread
-/// and waits for none. Maps find their keys under `seed`.
-///
-/// No line after that of the place is taken, and the reader isn't asked for more once that line is available: a line after it that can't be
-/// read, and a reader that fails later, are never met.
-///
-/// `Read` comes exactly where the reader failed, `NoMemory` where a growth was refused.
+/// Reads a log up to the line of a place, or to its end, and runs it in order in batches of 1,024 places, without a report. It starts no
+/// thread. No line after the place's is taken.
 pub fn run_quietly_to<R: Read>(
     alloc: Global,
     reader: &mut Counted<R>,

@@ -168,18 +168,8 @@ fn run_batches<T: Threads + Wait + Sync, R: Read, W: Write>(
     Ok(())
 }
 
-/// Reads a log to its end, runs it in batches, and writes its report: one line for each line but the heading of version 2. The report of
-/// the batches that are done is written each time that the whole buffered lines are taken, which are those of one read at most; the writer
-/// is flushed once, at the end. It returns the engine with the log, all of it finished. Maps find their keys under `seed`.
-///
-/// A batch is the next `batch` accepted statements, or what is left at the end of the input. After each batch the rows before the
-/// last `keep` batches aren't kept: the store's mark is the start of the `keep`-th batch from the last one, or the end if `keep`
-/// is 0. Refused lines wait for the end of their batch, so that the report's lines keep their order: two bytes or so for each.
-///
-/// `BadSettings` comes exactly where a setting is outside its limits, and nothing is done then. `NoMemory` comes where a growth was
-/// refused, `Spawn` where a worker's thread could not be started, `Read` where the reader failed, `Write` where the writer failed, or took
-/// no byte of a piece that wasn't empty. After a fault a beginning of the report is written: after `NoMemory`, `Spawn` and `Read` the
-/// batches that were finished, after `Write` what the writer took.
+/// Reads a log to its end, runs it in batches, and writes its report; the writer is flushed once, at the end. It returns the engine. Maps
+/// find their keys under `seed`.
 #[tactic(auto, using(crate::proofs::Faults::never_bad, crate::proofs::Faults::one_alone))]
 pub fn run_text<T: Threads + Wait + Sync, R: Read, W: Write>(
     rt: &T,
@@ -219,13 +209,8 @@ pub fn run_text<T: Threads + Wait + Sync, R: Read, W: Write>(
     Ok(batching.engine)
 }
 
-/// Reads a log to its end, runs it in batches, and writes its report, as `run_text`, but keeps nothing that is finished: with each
-/// batch its statements and outcomes are dropped once they are reported. So what it keeps beside rows, names and the records of
-/// grants doesn't grow with the accepted lines. Maps find their keys under `seed`.
-///
-/// Where bytes arrive `Live` a batch ends also where no whole line is available, so that the reader is asked only when all lines before are
-/// reported: a line that comes alone is answered at once. Where they are `Stored` each batch but the last one is full. After each batch the
-/// store's mark is `batch * (keep - 1)` places before the start of the batch, or its end if `keep` is 0.
+/// Writes the report of a log as `run_text`, but drops what is finished. Where bytes arrive `Live` a batch ends before the reader may wait;
+/// where they are `Stored` each but the last one is full.
 #[tactic(auto, using(crate::proofs::Faults::never_bad, crate::proofs::Faults::one_alone))]
 pub fn report_text<T: Threads + Wait + Sync, R: Read, W: Write>(
     rt: &T,
@@ -257,17 +242,8 @@ pub fn report_text<T: Threads + Wait + Sync, R: Read, W: Write>(
     run_batches(&runner, reader, writer, &mut batching, NONE_AHEAD)
 }
 
-/// Reads a log to its end, runs it in order on this thread, and writes its report: one line for each line but the heading of version 2.
-/// Nothing that is finished is kept. Meanwhile as many further threads as `reading` says read lines before their turn. Maps find their keys
-/// under `seed`.
-///
-/// Where no whole line is available, what waits of the report is written before more is read: a line that comes alone is answered at once.
-/// While whole lines are buffered the report is gathered.
-///
-/// The rows and the grants are kept in memory, and of a line nothing but the names that it is the first to name. `NoMemory` comes where a
-/// growth was refused, `Read` where the reader failed, `Write` where the writer failed, or took no byte of a piece that wasn't empty. After
-/// a fault a beginning of the report is written: after `NoMemory` and `Read` the batches that were finished, after `Write` what the writer
-/// took.
+/// Writes the report of a log that it runs in order on this thread, while as many more as `reading` says read lines ahead. Nothing finished
+/// is kept. Before the reader is asked for more, what waits is written.
 #[tactic(auto, using(crate::proofs::Faults::in_order))]
 pub fn report_in_order<T: Threads + Wait + Sync, R: Read, W: Write>(
     rt: &T,

@@ -355,13 +355,8 @@ impl FedRun {
         Ok(())
     }
 
-    /// Takes bytes of the log from `input` and gives bytes of its report into `out`, until all of `input` is taken or `out` is full. Lines
-    /// are run up to 64 at once, and their lines of the report are given before more is taken.
-    ///
-    /// However a text is cut into calls, and however little room there is, what is given is a beginning of its report. On `NoMemory` a
-    /// growth was refused: `Step` has what was taken and given, which is whole lines, nothing is lost, and the call may be made again with
-    /// the rest. `Full` is returned where there are as many lines as can be counted. After `finish` nothing is done, and `Ended` is
-    /// returned.
+    /// Takes bytes of the log from `input` and gives bytes of its report into `out`, until all is taken or `out` is full. After `NoMemory`
+    /// nothing is lost, and the call may be made again with the rest.
     pub fn step(
         &mut self,
         alloc: Global,

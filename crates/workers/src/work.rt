@@ -235,13 +235,8 @@ pub struct Workers<'a, R, G> {
     pub count: usize,
 }
 
-/// Places and runs all places of a batch by these workers. The placers are those of the partitions that aren't placed whole yet; worker w
-/// of W has those whose numbers have the remainder w, and first places all of the batch for these. Then each begins with a part of the
-/// batch of its own and goes round over the places that it hasn't had done yet, until it has had each done; where another has a place
-/// available, it goes on with the next. The gate is notified of places of the log, of which the batch's first is `start`: by each worker of
-/// a place before it asks for it, and once when it is done. If a thread can't be started or memory runs out, all workers stop. No thread
-/// runs any more afterwards. The pass knows what it knew and what the workers know. `Done` says that all places are done, `NotStarted` that
-/// a thread couldn't be started. With one worker no thread is started.
+/// Places and runs a batch. Worker w of W has the placers whose numbers have the remainder w. Each goes round over the places from a part
+/// of its own, and notifies the gate before it asks for one.
 pub fn run_workers<
     K: Fills + Sync,
     P: BatchPlacer<K> + Send,
