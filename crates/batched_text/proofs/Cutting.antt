@@ -106,6 +106,21 @@ pub waits_for : (plan : Plan) (batching : Batching) → IsFilling plan batching
     → batching.engine.store.mark ≤ mark_behind plan.settings (finished batching.engine) (length batching.engine.log.statements)
 waits_for plan batching filling = mark_so_far plan.cut plan.settings batching.engine filling.cut (omega (arith, filling.counted))
 
+-- after a batch that begins at one place and ends at another, full or not
+pub ends_early : (settings : Settings) (run : Run) (start end : ℕ) → finished run ≡ end → run.store.mark ≡ mark_behind settings start end
+    → end ≤ start + settings.batch → start < end → IsCutEarly settings run
+ends_early settings run start end all mark most more =
+    let keep : ℕ = settings.keep in
+    let batch : ℕ = settings.batch in
+    let least : mark_behind settings (finished run - batch) (finished run) ≡ mark_behind settings (end - batch) end =
+    ap (λ (n : ℕ). mark_behind settings (n - batch) n) all in
+    let last : mark_behind settings (finished run - 1) (finished run) ≡ mark_behind settings (end - 1) end =
+    ap (λ (n : ℕ). mark_behind settings (n - 1) n) all in
+    record {
+      least = omega (arith, least, mark, mark_order keep batch (end - batch) end start end (omega (arith, most)) (omega arith));
+      most = omega (arith, last, mark, mark_order keep batch start end (end - 1) end (omega (arith, more)) (omega arith));
+    }
+
 -- a batch may end: it is full, or may end early
 abbrev pub IsDue : Cut → Settings → Run → Type 0
 IsDue Cut.WhenFull settings run = finished run + settings.batch ≤ length run.log.statements
@@ -134,20 +149,8 @@ module _ (plan : Plan) (old new : Batching) (reported : ReportsAll plan old new)
       ∙ ap (λ (b : Bool). if b then mark_behind plan.settings (finished old.engine) count else old.engine.store.mark) (le-ltb (finished old.engine) count none)
 
   -- the cut after one more batch, which may have ended early
-  early_more : IsCutEarly plan.settings old.engine → count ≤ finished old.engine + plan.settings.batch → finished old.engine < count
-      → IsCutEarly plan.settings new.engine
-  early_more cut most more =
-      let keep : ℕ = plan.settings.keep in
-      let batch : ℕ = plan.settings.batch in
-      let start : ℕ = finished old.engine in
-      let least : mark_behind plan.settings (finished new.engine - batch) (finished new.engine) ≡ mark_behind plan.settings (count - batch) count =
-      ap (λ (n : ℕ). mark_behind plan.settings (n - batch) n) reported.all in
-      let last : mark_behind plan.settings (finished new.engine - 1) (finished new.engine) ≡ mark_behind plan.settings (count - 1) count =
-      ap (λ (n : ℕ). mark_behind plan.settings (n - 1) n) reported.all in
-      record {
-        least = omega (arith, least, marked more, mark_order keep batch (count - batch) count start count (omega (arith, most)) (omega arith));
-        most = omega (arith, last, marked more, mark_order keep batch start count (count - 1) count (omega (arith, more)) (omega arith));
-      }
+  early_more : count ≤ finished old.engine + plan.settings.batch → finished old.engine < count → IsCutEarly plan.settings new.engine
+  early_more most more = ends_early plan.settings new.engine (finished old.engine) count reported.all (marked more) most more
 
   early_none : IsCutEarly plan.settings old.engine → count ≡ finished old.engine → IsCutEarly plan.settings new.engine
   early_none cut none =
@@ -161,7 +164,7 @@ module _ (plan : Plan) (old new : Batching) (reported : ReportsAll plan old new)
       → IsCutEarly plan.settings new.engine
   cut_early cut within most =
       elim (cases_lt (finished old.engine) count) [
-        | inl more ↦ early_more cut most more
+        | inl more ↦ early_more most more
         | inr none ↦ early_none cut (omega (arith, none, within))
       ]
 

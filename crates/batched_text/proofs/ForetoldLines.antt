@@ -1,8 +1,7 @@
 -- What a line that was read before its turn results in in its turn.
-use Rattle.std.proofs.Common.{◌≡◌, ◌≢◌, ℕ, ◌<◌, ◌≤◌, ◌+◌, List, ◌++◌, ap, arith, get_or-set_other, length, length-set, refl, sym, ◌∙◌, subst}
-use Rattle.std.proofs.Math.Seq.{drop-append_seam, take-append_seam}
-use Rattle.std.proofs.lemmas.List.Elements.{All-drop, All-take}
-use Rattle.std.specs.Prelude.{All, Err, false, Ok, Option, None, slice_index_or, slice_set}
+use Rattle.std.proofs.Common.{◌≡◌, ℕ, ◌<◌, List, ◌++◌, ap, arith, length, refl, sym, ◌∙◌, subst}
+use Rattle.std.proofs.lemmas.Bool.{ne_eqb}
+use Rattle.std.specs.Prelude.{◌==◌, Bool, Err, false, Ok, Option, None, slice_index_or}
 use Rattle.model_base.specs.declared.limits.TheConstants.{MOST_PLACES}
 use Rattle.model_base.specs.declared.statement.Statement.{Statement}
 use Rattle.log_text.specs.Fault.{fault_in}
@@ -14,6 +13,7 @@ use Rattle.sequencer.specs.Catalog.{Names}
 use Rattle.sequencer.specs.Foretelling.{Begins, IsForetold}
 use Rattle.sequencer.specs.Log.{Accepted, with_accepted}
 use Rattle.sequencer.specs.Refusal.{refusal}
+use Rattle.sequencer.specs.Whole.{IsWhole}
 use Rattle.sequencer.specs.declared.refused.Refused.{Refused}
 use Rattle.sequencer.proofs.Beginnings.{begins_further}
 use Rattle.read_ahead.specs.Ahead.{IsAhead, line_from}
@@ -41,16 +41,22 @@ known_reading : (version : Version) (line : List ℕ) (sentence : Sentence) → 
     → ReadsAs false version line (read sentence)
 known_reading version line sentence reads sound = reads_as false version line (Ok sentence) refl reads sound tt (λ same. cc)
 
-pub known_at : (now : Names) (bytes : List ℕ) (ahead : Ahead) (statement : Statement) → WasReadAhead now bytes ahead → ahead.found ≡ Found.Known statement
-    → (sentence : Sentence) × (IsInGrammar sentence × (ReadsAs false now.version (line_from bytes ahead.from) (read sentence) × (now.places < MOST_PLACES → IsForetold now sentence statement)))
-known_at now bytes ahead statement was is =
+-- so a line is read of which a statement was found; while the log is the same and has a place left, it takes the line's sentence as that
+-- statement
+pub known_at : (old now : Batching) (bytes : List ℕ) (ahead : Ahead) (statement : Statement) → now.engine.log ≡ old.engine.log → IsWhole now.engine.log
+    → length old.engine.log.statements < MOST_PLACES → WasReadAhead (log_names old) bytes ahead → ahead.found ≡ Found.Known statement
+    → (sentence : Sentence) × (IsInGrammar sentence × (ReadsAs false (log_names now).version (line_from bytes ahead.from) (read sentence) × IsForetold (log_names now) sentence statement))
+known_at old now bytes ahead statement same whole place was is =
     let found = was.ahead.found in
     let line : List ℕ = line_from bytes ahead.from in
     let version : Version = was.names.version in
     let sound : fault_in version line ≡ None = found.sound statement is in
     let reading = total_in version line sound in
-    let reads = subst (λ (v : Version). ReadsAs false v line (read reading.0)) was.version (known_reading version line reading.0 reading.1 sound) in
-    (reading.0, (reading.1.grammar, (reads, λ place. found.known statement reading.0 is reading.1 now was.begins place)))
+    let stays : version ≡ (log_names now).version = was.version ∙ ap (λ (log : Accepted). log.names.version) (sym same) in
+    let begins : Begins was.names (log_names now) = subst (λ (log : Accepted). Begins was.names log.names) (sym same) was.begins in
+    let left : (log_names now).places < MOST_PLACES = omega (arith, place, whole.places, ap (λ (log : Accepted). length log.statements) same) in
+    let reads = subst (λ (v : Version). ReadsAs false v line (read reading.0)) stays (known_reading version line reading.0 reading.1 sound) in
+    (reading.0, (reading.1.grammar, (reads, found.known statement reading.0 is reading.1 (log_names now) begins left)))
 
 pub faulty_at : (now : Names) (bytes : List ℕ) (ahead : Ahead) (fault : LineFault) → WasReadAhead now bytes ahead → ahead.found ≡ Found.Faulty fault
     → ReadsAs false now.version (line_from bytes ahead.from) (faulty fault)
@@ -59,59 +65,23 @@ faulty_at now bytes ahead fault was is =
     (reads_as false was.names.version (line_from bytes ahead.from) (Err fault) refl tt tt (λ told. was.ahead.found.faulty fault is)
     (λ same. was.ahead.found.told (is ∙ ap (λ (f : LineFault). Found.Faulty f) (let own : fault ≡ LineFault.NoMemory = cc in own))))
 
+-- so a line after the first is read
+pub reads_later : (number : ℕ) (version : Version) (line : List ℕ) (reading : ParsedLine) → 1 < number → ReadsAs false version line reading
+    → ReadsAs (number == 1) version line reading
+reads_later number version line reading begun reads =
+    subst (λ (b : Bool). ReadsAs b version line reading) (sym (ne_eqb number 1 (λ same. omega (arith, same, begun)))) reads
+
 -- a line that was dealt with only names after it
 pub begins_dealt : (reading : ParsedLine) (old new : Batching) → Deals reading old new → Begins (log_names old) (log_names new)
 begins_dealt reading old new deals =
     subst (λ (log : Accepted). Begins (log_names old) log.names) (sym deals.log) (begins_reading (log_names old) reading)
 
--- from an index on these lines were read before their turn, all by names with which those now begin, in their version
-pub record AreStillAhead (now : Names) (bytes : List ℕ) (from : ℕ) (lines : List Ahead) : Type 0 where
-  pub names : Names
-  pub begins : Begins names now
-  pub version : names.version ≡ now.version
-  pub ahead : (k : ℕ) (other : Ahead) → from ≤ k → k < length lines → IsAhead names bytes (slice_index_or lines k other)
-
-pub all_ahead : (now : Names) (bytes : List ℕ) (lines : List Ahead) → WereReadAhead now bytes lines → AreStillAhead now bytes 0 lines
-all_ahead now bytes lines were = record {
-  names = were.names;
-  begins = were.begins;
-  version = were.version;
-  ahead = λ k other least within. were.ahead k other within;
-}
-
--- those after a line stay so, whatever is taken out of it and whatever names come
-pub still_ahead : (now later : Names) (bytes : List ℕ) (from : ℕ) (lines : List Ahead) (line : Ahead) → AreStillAhead now bytes from lines → Begins now later
-    → later.version ≡ now.version → AreStillAhead later bytes (from + 1) (slice_set lines from line)
-still_ahead now later bytes from lines line were further same = record {
+-- one of the lines that were read before their turn was, whatever names came since
+pub was_ahead : (now later : Names) (bytes : List ℕ) (lines : List Ahead) (index : ℕ) (line : Ahead) → WereReadAhead now bytes lines → Begins now later
+    → later.version ≡ now.version → index < length lines → line ≡ slice_index_or lines index line → WasReadAhead later bytes line
+was_ahead now later bytes lines index line were further same within is = record {
   names = were.names;
   begins = begins_further were.names now later were.begins further;
   version = were.version ∙ sym same;
-  ahead = λ k other least within.
-      let inside : k < length lines = subst (λ n. k < n) (length-set lines from line) within in
-      let differ : k ≢ from = omega (arith, least) in
-      subst (IsAhead were.names bytes) (sym (get_or-set_other lines from k line other differ)) (were.ahead k other (omega (arith, least)) inside);
+  ahead = subst (IsAhead were.names bytes) (sym is) (were.ahead index line within);
 }
-
--- so were the first of these lines
-pub were_front : (now : Names) (bytes : List ℕ) (lines front others : List Ahead) → lines ≡ front ++ others → WereReadAhead now bytes lines
-    → WereReadAhead now bytes front
-were_front now bytes lines front others same were =
-    let P = IsAhead were.names bytes in
-    record {
-      names = were.names;
-      begins = were.begins;
-      version = were.version;
-      ahead = subst (All P) (take-append_seam front others) (All-take P (length front) (front ++ others) (subst (All P) same were.ahead));
-    }
-
--- and the others, whatever names come
-pub were_others : (now later : Names) (bytes : List ℕ) (lines front others : List Ahead) → lines ≡ front ++ others → WereReadAhead now bytes lines
-    → Begins now later → later.version ≡ now.version → WereReadAhead later bytes others
-were_others now later bytes lines front others same were further stays =
-    let P = IsAhead were.names bytes in
-    record {
-      names = were.names;
-      begins = begins_further were.names now later were.begins further;
-      version = were.version ∙ sym stays;
-      ahead = subst (All P) (drop-append_seam front others) (All-drop P (length front) (front ++ others) (subst (All P) same were.ahead));
-    }

@@ -13,3 +13,4 @@ pub mod Fronts
 pub mod ForetoldLines
 pub mod RunLines
 pub mod LineReadings
+pub mod Singles

@@ -5,12 +5,14 @@ use Rattle.std.proofs.lemmas.Bool.{ne_eqb}
 use Rattle.std.specs.Io.KnownBytes.{prepend_known}
 use Rattle.log_text.proofs.Total.{total_in}
 use Rattle.line_io.specs.Lines.{first_line}
-use Rattle.report.specs.Report.{IsParsedLine}
+use Rattle.report.specs.Report.{IsParsedLine, ParsedLine}
 use Rattle.report.proofs.ReportLemmas.{version-with}
 use Rattle.sequencer.specs.Foretelling.{Begins}
 use Rattle.sequencer.specs.Log.{Accepted}
 use Rattle.sequencer.proofs.Beginnings.{begins_further, begins_same}
+use Rattle.read_ahead.specs.Ahead.{IsLineAt}
 use Rattle.read_ahead.proofs.Cut.{took_at}
+use Rattle.bohm_base.specs.Collecting.{ReadsAs}
 use Rattle.bohm_base.specs.Pending.{HasBegunReport}
 use Rattle.line_io.specs.declared.fault.EngineFault.{EngineFault}
 use Rattle.engine.specs.Engine.{finished}
@@ -75,42 +77,49 @@ module _ (plan : Plan) (buffered : Buffered) where
   }
 
   -- a line after the first leaves the version
-  version-dealt : (from count : ℕ) (old mid new : Batching) → 1 < old.number → (taken : TakesAt buffered.bytes.now from count old mid)
-      → Deals taken.reading old new → (log_names new).version ≡ (log_names old).version
-  version-dealt from count old mid new begun taken deals =
+  version-dealt : (from count : ℕ) (line : List ℕ) (reading : ParsedLine) (old new : Batching) → 1 < old.number
+      → IsLineAt buffered.bytes.now from count line → ReadsAs (old.number == 1) (log_names old).version line reading
+      → Deals reading old new → (log_names new).version ≡ (log_names old).version
+  version-dealt from count line reading old new begun at reads deals =
       let other : (old.number == 1) ≡ false = ne_eqb old.number 1 (λ same. omega (arith, same, begun)) in
-      let read : IsParsedLine false (log_names old).version (first_line (drop from buffered.bytes.now ++ [])) taken.reading =
-      subst (λ (b : Bool). IsParsedLine b (log_names old).version (first_line (drop from buffered.bytes.now ++ [])) taken.reading) other
-      (taken.reads (first_line (drop from buffered.bytes.now ++ [])) (taken.at.first [])) in
-      ap (λ (log : Accepted). log.names.version) deals.log ∙ version-with (log_names old) taken.reading
-      ∙ version-stays (log_names old).version (first_line (drop from buffered.bytes.now ++ [])) taken.reading read
+      let read : IsParsedLine false (log_names old).version (first_line (drop from buffered.bytes.now ++ [])) reading =
+      subst (λ (b : Bool). IsParsedLine b (log_names old).version (first_line (drop from buffered.bytes.now ++ [])) reading) other
+      (reads (first_line (drop from buffered.bytes.now ++ [])) (at.first [])) in
+      ap (λ (log : Accepted). log.names.version) deals.log ∙ version-with (log_names old) reading
+      ∙ version-stays (log_names old).version (first_line (drop from buffered.bytes.now ++ [])) reading read
 
-  -- one line, which was taken, and then its batch was reported if that is full
-  pub runs_line : (from count : ℕ) (old mid new : Batching) → IsReadyAt plan old buffered from → TakesAt buffered.bytes.now from count old mid
-      → ReportsFirst plan mid new → Runs plan buffered from old new (Ok (from + count))
-  runs_line from count old mid new ready taken put =
-      let deals : Deals taken.reading old new = dealt plan taken.reading old mid new taken.takes put in
+  -- one line, which was dealt with
+  pub runs_dealt : (from count : ℕ) (line : List ℕ) (reading : ParsedLine) (old new : Batching) → IsReadyAt plan old buffered from
+      → IsLineAt buffered.bytes.now from count line → ReadsAs (old.number == 1) (log_names old).version line reading
+      → Deals reading old new → IsOpen plan new → Runs plan buffered from old new (Ok (from + count))
+  runs_dealt from count line reading old new ready at reads deals room =
       let takes : TakesFrom buffered.bytes.now from (from + count) old new =
       λ behind input out held so.
-      batched_step input (prepend_known (drop from buffered.bytes.now) behind) (prepend_known (drop (from + count) buffered.bytes.now) behind) out held taken.line taken.reading old new so
-      (took_at buffered.bytes.now from count taken.line taken.at behind) taken.reads deals (within_open plan old ready.ready.room)
-      (record { whole = put.room.filling.whole; within = within_open plan new put.room }) in
+      batched_step input (prepend_known (drop from buffered.bytes.now) behind) (prepend_known (drop (from + count) buffered.bytes.now) behind) out held line reading old new so
+      (took_at buffered.bytes.now from count line at behind) reads deals (within_open plan old ready.ready.room)
+      (record { whole = room.filling.whole; within = within_open plan new room }) in
       record {
-        within = taken.at.within;
+        within = at.within;
         ready = record {
           ready = record {
-            room = put.room;
+            room = room;
             bounded = λ left. ready.ready.bounded (omega (arith, left));
-            numbered = omega (arith, taken.at.some, taken.at.within, deals.number, ready.ready.numbered);
+            numbered = omega (arith, at.some, at.within, deals.number, ready.ready.numbered);
           };
           begun = omega (arith, ready.begun, deals.number);
         };
         taken = takes;
         begun = taken_begun buffered.bytes.now from (from + count) old new takes;
-        begins = begins_dealt taken.reading old new deals;
-        version = version-dealt from count old mid new ready.begun taken deals;
+        begins = begins_dealt reading old new deals;
+        version = version-dealt from count line reading old new ready.begun at reads deals;
         err = tt;
       }
+
+  -- one line, which was taken, and then its batch was reported if that is full
+  pub runs_line : (from count : ℕ) (old mid new : Batching) → IsReadyAt plan old buffered from → TakesAt buffered.bytes.now from count old mid
+      → ReportsFirst plan mid new → Runs plan buffered from old new (Ok (from + count))
+  runs_line from count old mid new ready taken put =
+      runs_dealt from count taken.line taken.reading old new ready taken.at taken.reads (dealt plan taken.reading old mid new taken.takes put) put.room
 
   -- one run of lines, and then another
   pub runs_then : (from at : ℕ) (old mid new : Batching) (result : Result ℕ EngineFault) → Runs plan buffered from old mid (Ok at)

@@ -1,5 +1,5 @@
 -- The versions that are left once rows are trimmed and swept.
-use Rattle.std.proofs.Common.{◌≡◌, ◌≤◌, ◌-◌, ◌++◌, ◌&&◌, ◌∷◌, [], ℕ, Bool, true, false, List, Result, Ok, Err, length, filter, refl, sym, ◌∙◌, ap, subst, arith, is_none}
+use Rattle.std.proofs.Common.{◌≡◌, ◌≤◌, ◌-◌, ◌&&◌, ◌∷◌, [], ℕ, Bool, true, false, List, Result, Ok, Err, length, filter, refl, sym, ◌∙◌, ap, subst, arith, is_none}
 use Rattle.std.specs.List.{list_all}
 use Rattle.std.specs.Prelude.{◌==◌, ◌||◌, IfOk, is_err, nat_lt, not}
 use Rattle.std.proofs.Math.Bool.{and-false}

@@ -1,18 +1,24 @@
 //! Lines that are taken, and run as a batch once there are enough of them.
 
-ghost use Rattle.std.specs.Prelude.{◌≡◌, ◌≤◌, IfErr, OnOk};
+ghost use Rattle.std.specs.Prelude.{◌≡◌, ◌<◌, ◌≤◌, ◌-◌, ◌^◌, [], IfErr, OnOk, length};
+ghost use Rattle.log_text.specs.Statement.{IsInGrammar, Sentence};
+ghost use Rattle.sequencer.specs.Foretelling.{IsForetold};
 ghost use Rattle.engine.specs.Engine.{finished};
-ghost use Rattle.batched_text.specs.Batching.{IsFaultOfBatch, IsFilling, ReportsAll, ReportsFirst};
+ghost use Rattle.report.specs.Report.{read};
+ghost use Rattle.batched_text.specs.declared.history.Cut.{Cut};
+ghost use Rattle.batched_text.specs.declared.history.History.{History};
+ghost use Rattle.batched_text.specs.Batching.{Deals, IsFaultOfBatch, IsFilling, IsOpen, ReportsAll, ReportsFirst};
 ghost use Rattle.batched_text.specs.History.{KeepsAll, dropped_by};
 ghost use Rattle.batched_text.specs.Sweeping.{IsSwept};
 
 use crate::history::History;
-use crate::reporting::put_lines;
+use crate::reporting::{FinishedPlace, put_finished, put_lines};
 use crate::runner::Runner;
 use crate::settings::{Settings, mark_behind};
+use body::Window;
 use bohm_base::{EngineFault, LineOutcome};
 use engine::{Crew, Engine};
-use model_base::{HashSeed, Place};
+use model_base::{HashSeed, MOST_PLACES, Place, Statement};
 use std::alloc::Global;
 use std::sync::Wait;
 use std::thread::Threads;
@@ -143,5 +149,63 @@ pub(crate) fn report_full<T: Threads + Wait + Sync>(
     if waiting >= runner.plan.settings.batch {
         report_batch(runner, batching)?;
     }
+    Ok(())
+}
+
+/// Reports the lines that wait, as `report_batch`, if there are some.
+pub(crate) fn report_waiting<T: Threads + Wait + Sync>(
+    runner: &Runner<T>,
+    batching: &mut Batching,
+) -> Result<(), EngineFault>
+    requires open { IsOpen runner.now.plan batching.old }
+    requires cut { runner.now.plan.cut ≡ Cut.BeforeReads }
+    ensures reports { OnOk result (ReportsFirst runner.now.plan batching.old batching.new) }
+    ensures none { OnOk result (batching.new.waiting.items ≡ []) }
+    ensures err { IfErr result (IsFaultOfBatch runner.now.plan batching.old batching.new) }
+{
+    if !batching.waiting.is_empty() {
+        report_batch(runner, batching)?;
+    }
+    Ok(())
+}
+
+/// Runs a statement that was foretold as a batch of its own, from where it stays, and appends the report's line for it to what is pending.
+/// No line waits, and nothing that is finished is kept. After an error what was pending is.
+#[tactic(auto, using(crate::proofs::Faults::stops_memory, crate::proofs::Faults::stops_told))]
+pub(crate) fn report_single<T: Threads + Wait + Sync>(
+    runner: &Runner<T>,
+    batching: &mut Batching,
+    statement: &Statement,
+    window: &mut Window,
+) -> Result<(), EngineFault>
+    requires open { IsOpen runner.now.plan batching.old }
+    requires cut { runner.now.plan.cut ≡ Cut.BeforeReads }
+    requires dropped { runner.now.plan.history ≡ History.Dropped }
+    requires none { batching.old.waiting.items ≡ [] }
+    requires number { batching.old.number < 2 ^ 64 - 1 }
+    requires place { length batching.old.engine.log.statements < MOST_PLACES }
+    requires foretold { (sentence : Sentence) × (IsInGrammar sentence × IsForetold batching.old.engine.log.names sentence statement.now) }
+    ensures deals { OnOk result ((sentence : Sentence) → IsForetold batching.old.engine.log.names sentence statement.now
+        → Deals (read sentence) batching.old batching.new) }
+    ensures room { OnOk result (IsOpen runner.now.plan batching.new) }
+    ensures err { IfErr result (IsFaultOfBatch runner.now.plan batching.old batching.new) }
+{
+    let place = batching.engine.finished();
+    let outcome = batching
+        .engine
+        .run_foretold(runner.alloc, statement, window)?;
+    let mark = mark_behind(&runner.plan.settings, place, place + 1);
+    trim_to(&mut batching.engine, mark);
+    let _dropped = batching.engine.log().dropped();
+    batching.text.clear();
+    let at = FinishedPlace {
+        engine: &batching.engine,
+        place,
+        statement,
+        outcome: &outcome,
+    };
+    put_finished(runner.alloc, &mut batching.text, &at)?;
+    batching.pending.extend_from_slice(&batching.text)?;
+    batching.number += 1;
     Ok(())
 }

@@ -42,3 +42,20 @@ pub(crate) struct Plan {
     pub(crate) history: History,
     pub(crate) cut: Cut,
 }
+
+impl Plan {
+    ghost use Rattle.std.specs.Prelude.{◌≡◌, true};
+    ghost use Rattle.batched_text.specs.declared.history.Cut.{Cut};
+    ghost use Rattle.batched_text.specs.declared.history.History.{History};
+
+    /// Whether a statement may be run as a batch of its own, of which nothing is kept.
+    pub(crate) fn runs_singly(&self) -> bool
+        ensures cut { result ≡ true → self.now.cut ≡ Cut.BeforeReads }
+        ensures dropped { result ≡ true → self.now.history ≡ History.Dropped }
+    {
+        match (self.cut, self.history) {
+            (Cut::BeforeReads, History::Dropped) => true,
+            (Cut::WhenFull, _) | (_, History::Kept) => false,
+        }
+    }
+}

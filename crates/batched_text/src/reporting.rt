@@ -36,11 +36,11 @@ pub fn named_grantees(
 
 /// A place of an engine that is finished, with its statement and its outcome.
 #[derive(Clone, Copy)]
-struct FinishedPlace<'a> {
-    engine: &'a Engine,
-    place: Place,
-    statement: &'a Statement,
-    outcome: &'a Outcome,
+pub(crate) struct FinishedPlace<'a> {
+    pub(crate) engine: &'a Engine,
+    pub(crate) place: Place,
+    pub(crate) statement: &'a Statement,
+    pub(crate) outcome: &'a Outcome,
 }
 
 /// Appends the report's line for a place by its statement, its outcome and the grantees of the records that it lists.
@@ -65,7 +65,11 @@ fn put_named(alloc: Global, text: &mut Vec<u8>, at: &FinishedPlace<'_>) -> Resul
 
 /// Appends the report's line for a place by its statement and its outcome.
 #[inline(always)]
-fn put_finished(alloc: Global, text: &mut Vec<u8>, at: &FinishedPlace<'_>) -> Result<(), AllocError>
+pub(crate) fn put_finished(
+    alloc: Global,
+    text: &mut Vec<u8>,
+    at: &FinishedPlace<'_>,
+) -> Result<(), AllocError>
     requires whole { IsWhole at.now.engine.now.log }
     requires finished { IsFinishedAs at.now.engine.now at.now.place at.now.statement.now at.now.outcome.now }
     ensures { OnOk result (text.new.items

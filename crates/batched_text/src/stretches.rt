@@ -7,10 +7,9 @@ ghost use Rattle.batched_text.specs.Foretold.{IsReadyAt, Runs, log_names};
 
 use crate::batching::Batching;
 use crate::buffered::Buffered;
-use crate::foretold::{report_foretold, report_until};
+use crate::foretold::{Room, report_foretold, report_until};
 use crate::runner::Runner;
 use bohm_base::EngineFault;
-use log_text::LineBuffers;
 use read_ahead::{Basis, Piece, Stretch};
 use sequencer::Catalog;
 use std::sync::Wait;
@@ -46,7 +45,7 @@ fn report_piece<'a, B: Basis, T: Threads + Wait + Sync>(
     ahead: &StretchAhead<'a, B>,
     piece: usize,
     from: usize,
-    raw: &mut LineBuffers<'a>,
+    room: &mut Room<'a>,
 ) -> Result<usize, EngineFault>
     requires names { Begins B.names (log_names batching.old) }
     requires version { B.names.version ≡ (log_names batching.old).version }
@@ -58,13 +57,13 @@ fn report_piece<'a, B: Basis, T: Threads + Wait + Sync>(
     let buffered = &ahead.buffered;
     let end = stretch.end_of(piece);
     let Some(read) = stretch.take(piece) else {
-        return report_until(runner, batching, buffered, from, end, raw);
+        return report_until(runner, batching, buffered, from, end, &mut room.raw);
     };
-    let (mut lines, count) = read.into_lines();
-    let found = &mut lines[..count];
-    let at = report_foretold(runner, batching, buffered, found, from, raw)?;
+    let (lines, count) = read.into_lines();
+    let found = &lines[..count];
+    let at = report_foretold(runner, batching, buffered, found, from, room)?;
     stretch.give_back(Piece::over(lines));
-    report_until(runner, batching, buffered, at, end, raw)
+    report_until(runner, batching, buffered, at, end, &mut room.raw)
 }
 
 /// Deals with the lines of a stretch, piece by piece, as `report_piece`. Where a piece isn't read yet it reads others, as
@@ -73,7 +72,7 @@ fn report_pieces<'a, B: Basis, T: Threads + Wait + Sync>(
     runner: &Runner<T>,
     batching: &mut Batching,
     ahead: &StretchAhead<'a, B>,
-    raw: &mut LineBuffers<'a>,
+    room: &mut Room<'a>,
 ) -> Result<usize, EngineFault>
     requires begins { Begins B.names (log_names batching.old) }
     requires version { B.names.version ≡ (log_names batching.old).version }
@@ -88,7 +87,7 @@ fn report_pieces<'a, B: Basis, T: Threads + Wait + Sync>(
         }
         stretch.pass(piece);
         stretch.read_until(ahead.names, ahead.buffered.bytes, piece);
-        at = report_piece(runner, batching, ahead, piece, at, raw)?;
+        at = report_piece(runner, batching, ahead, piece, at, room)?;
     }
     stretch.pass(stretch.len());
     Ok(at)
@@ -112,8 +111,8 @@ fn run_stretch<B: Basis, T: Threads + Wait + Sync>(
     requires ready { IsReadyAt runner.now.plan batching ahead.now.buffered 0 }
     ensures { Runs runner.now.plan ahead.now.buffered 0 batching result.batching result.result }
 {
-    let mut raw = LineBuffers::new(runner.alloc);
-    let result = report_pieces(runner, &mut batching, ahead, &mut raw);
+    let mut room = Room::new(runner.alloc);
+    let result = report_pieces(runner, &mut batching, ahead, &mut room);
     Ran { batching, result }
 }
 

@@ -70,7 +70,7 @@ module _ (log : Accepted) (outcomes later all : List Outcome) (end : ℕ) (is : 
   }
 
 -- the run of this state, of which these outcomes were dropped and those are kept
-abbrev run_in : Tail → RunState → List Outcome → List Outcome → Run
+abbrev pub run_in : Tail → RunState → List Outcome → List Outcome → Run
 run_in tail state past kept = record { log = tail.log; store = state.chains; book = state.book; outcomes = past ++ kept; dropped = tail.dropped }
 
 -- the range from the first place that isn't finished to an end was run

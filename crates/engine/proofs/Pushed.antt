@@ -1,16 +1,14 @@
 -- One statement more.
 use Rattle.std.proofs.Common.{◌≡◌, ℕ, List, [], ◌∷◌, None, length, ap, sym, ◌∙◌, subst, arith}
-use Rattle.std.specs.Prelude.{OnErr, OnOk, Result, Ok, Err}
+use Rattle.std.specs.Prelude.{Result, Ok, Err}
 use Rattle.std.proofs.lemmas.List.{length-append}
 use Rattle.model_base.specs.declared.outcome.Outcome.{Outcome}
-use Rattle.model_base.specs.declared.statement.Statement.{Statement}
 use Rattle.model_base.specs.Outcomes.{owners}
 use Rattle.chains.specs.Store.{Store}
 use Rattle.grants_base.specs.Book.{Entries}
 use Rattle.log_text.specs.Statement.{Sentence}
 use Rattle.log_text.specs.declared.version.Version.{Version}
 use Rattle.sequencer.specs.Catalog.{numbered}
-use Rattle.sequencer.specs.Foretelling.{IsForetold}
 use Rattle.sequencer.specs.Log.{Accepted, in_version, with_accepted}
 use Rattle.sequencer.specs.Pushing.{Pushes}
 use Rattle.sequencer.specs.Refusal.{refusal}
@@ -24,11 +22,11 @@ use Rattle.engine.proofs.Grown.{known_grown, outcomes_grown, stands_grown}
 use Rattle.engine.proofs.Named.{known_new, named_grown}
 use Rattle.sequencer.proofs.KnownTables.{known_names}
 
-abbrev run_of : Store → Entries → List Outcome → ℕ → Accepted → Run
+abbrev pub run_of : Store → Entries → List Outcome → ℕ → Accepted → Run
 run_of store book outcomes dropped log = record { log = log; store = store; book = book; outcomes = outcomes; dropped = dropped }
 
 module _ (tail : Tail) (store : Store) (book : Entries) (outcomes : List Outcome) (run : IsRun (run_of store book outcomes tail.dropped tail.log)) (whole : IsWhole tail.log) (own : NeedsOwnTables tail.log.statements) where
-  one-more : (sentence : Sentence) → refusal tail.log.names sentence ≡ None → IsRun (run_of store book outcomes tail.dropped (with_accepted tail.log sentence))
+  pub one-more : (sentence : Sentence) → refusal tail.log.names sentence ≡ None → IsRun (run_of store book outcomes tail.dropped (with_accepted tail.log sentence))
   one-more sentence passes =
       let log : Accepted = tail.log in
       let statement = numbered log.names sentence in
@@ -53,17 +51,6 @@ module _ (tail : Tail) (store : Store) (book : Entries) (outcomes : List Outcome
       (record { is = one-more sentence pushes.passes; same = same })
   pushed past same sentence after (Err refused) pushes =
       subst (λ (t : Tail). IsRunKept (run_of store book outcomes t.dropped t.log) past) (sym pushes.err) (record { is = run; same = same })
-
-  -- so it is where a statement is taken as it was foretold, or memory was refused
-  pub pushed_foretold : {E : Type 0} (past : List Outcome) → length past ≡ tail.dropped → (sentence : Sentence) (statement : Statement)
-      → IsForetold tail.log.names sentence statement → (after : Tail) (result : Result ℕ E)
-      → OnOk result ((s : Sentence) → IsForetold tail.log.names s statement → after ≡ record tail { log = with_accepted tail.log s }) → OnErr result (after ≡ tail)
-      → IsRunKept (run_of store book outcomes after.dropped after.log) past
-  pushed_foretold past same sentence statement is after (Ok place) accepted err =
-      subst (λ (t : Tail). IsRunKept (run_of store book outcomes t.dropped t.log) past) (sym (accepted sentence is))
-      (record { is = one-more sentence is.passes; same = same })
-  pushed_foretold past same sentence statement is after (Err refused) accepted err =
-      subst (λ (t : Tail). IsRunKept (run_of store book outcomes t.dropped t.log) past) (sym err) (record { is = run; same = same })
 
 -- what is pushed onto the log is pushed onto the run
 pub run_pushes : (tail after : Tail) (store : Store) (book : Entries) (outcomes : List Outcome) (run : Run) → run_of store book outcomes tail.dropped tail.log ≡ run

@@ -1,13 +1,15 @@
 -- A log of which a beginning is finished, batch by batch. BOHM works in batches too: a batch is placed as a whole before it is run, and
 -- what comes after it is what the next one finds (J. M. Faleiro and D. J. Abadi, "Rethinking Serializable Multiversion Concurrency
 -- Control", PVLDB 8, 2015, section 3). That each place is counted as finished with its whole batch is this project's own.
-use Rattle.std.specs.Prelude.{◌≡◌, ◌==◌, ◌&&◌, ◌≤◌, ◌-◌, ◌++◌, ℕ, Bool, List, OnErr, OnOk, Result, length, nat_le, nat_lt}
+use Rattle.std.specs.Prelude.{◌≡◌, ◌==◌, ◌&&◌, ◌≤◌, ◌+◌, ◌-◌, ◌++◌, ℕ, Bool, List, OnErr, OnOk, Result, Some, length, nat_le, nat_lt}
 use Rattle.model_base.specs.declared.limits.TheConstants.{MOST_BATCH_STATEMENTS, MOST_PARTITIONS, MOST_WORKERS}
+use Rattle.model_base.specs.Outcomes.{outcome}
 use Rattle.model_base.specs.declared.outcome.Outcome.{Outcome}
 use Rattle.model_base.specs.declared.row.Key.{Key}
-use Rattle.chains.specs.Store.{Store, of_key, versions_between}
+use Rattle.chains.specs.Store.{Store, of_key, versions_at, versions_between}
 use Rattle.grants_base.specs.Book.{Entries}
-use Rattle.sequencer.specs.Log.{Accepted}
+use Rattle.log_text.specs.Statement.{Sentence}
+use Rattle.sequencer.specs.Log.{Accepted, with_accepted}
 use Rattle.engine.specs.declared.crew.Crew.{Crew}
 use Rattle.engine.specs.Known.{AreKnown, AreNamed}
 use Rattle.engine.specs.RunState.{IsRunState}
@@ -64,3 +66,15 @@ pub record RunsTo {E : Type 0} (end : ℕ) (result : Result (Unit {0}) E) (old n
   pub log : new.log ≡ old.log
   pub dropped : new.dropped ≡ old.dropped
   pub err : OnErr result (new ≡ old)
+
+-- a sentence that was foretold became the next place and was run: its outcome is the log's, and neither its statement nor its outcome is kept;
+-- each key has gained a version for each write that it declares, whatever its outcome; the rows are kept from the same place on
+pub record RunsNext (sentence : Sentence) (found : Outcome) (old new : Run) : Type 0 where
+  pub log : new.log ≡ with_accepted old.log sentence
+  pub ends : finished new ≡ finished old + 1
+  pub came : outcome new.log.statements (finished old) ≡ Some found
+  pub versions :
+      (key : Key) → of_key key new.store.versions
+      ≡ of_key key (old.store.versions ++ versions_at new.log.statements (finished old))
+  pub mark : new.store.mark ≡ old.store.mark
+  pub dropped : new.dropped ≡ finished new

@@ -1,14 +1,16 @@
 -- What is before a place of a log: the book of the grants, and the versions of the rows.
-use Rattle.std.specs.Prelude.{◌≡◌, ◌<◌, ◌+◌, ◌++◌, ℕ, Bool, true, false, All, List, length, take}
+use Rattle.std.specs.Prelude.{◌≡◌, ◌<◌, ◌+◌, ◌++◌, ℕ, Bool, Some, true, false, All, List, length, slice_get, take}
 use Rattle.model_base.specs.declared.deed.Deed.{Deed}
 use Rattle.model_base.specs.declared.deed.Grant.{Grant}
 use Rattle.model_base.specs.declared.outcome.Outcome.{Outcome}
 use Rattle.model_base.specs.declared.statement.Statement.{Statement}
-use Rattle.model_base.specs.Laws.{IsGranting}
+use Rattle.model_base.specs.Laws.{AreGrantsOrRevocation, IsGranting}
 use Rattle.model_base.specs.Outcomes.{deeds_before, owners}
 use Rattle.model_base.specs.Privileges.{place_of}
 use Rattle.model_base.specs.Ranks.{deed_number, rank}
 use Rattle.chains.specs.Store.{IsRight, Store}
+use Rattle.own_words.specs.Words.{creates}
+use Rattle.engine.specs.Known.{AreKnown}
 use Rattle.grants_base.specs.Book.{Entries, IsLater, IsNextRecord, ShowsBook, owners_of, table_of_deed}
 
 -- the book has the tables that were created before the place and shows the deeds before it, and nothing later
@@ -36,6 +38,22 @@ pub record IsRunState (log : List Statement) (place : ℕ) (store : Store) (book
   pub ends : store.end ≡ place
   pub right : IsRight log store
   pub booked : IsBookState log place book
+
+-- the book has the deeds before the place, and these are the deeds that the place makes: grants on known tables, or one revocation
+pub record AreOwnDeeds (log : List Statement) (place : ℕ) (deeds : List Deed) (book : Entries) : Type 0 where
+  pub stands : IsBookState log place book
+  pub next : deeds_before log (place + 1) ≡ deeds_before log place ++ deeds
+  pub owners : owners (take (place + 1) log) ≡ owners (take place log)
+  pub at : All (λ deed. place_of deed ≡ place) deeds
+  pub one : AreGrantsOrRevocation deeds
+  pub tables : All (λ deed. table_of_deed deed < length book.tables) deeds
+
+-- the place has this statement, which creates a table that isn't in the book yet
+pub record IsCreating (log : List Statement) (place : ℕ) (statement : Statement) (book : Entries) : Type 0 where
+  pub stands : IsBookState log place book
+  pub known : AreKnown log
+  pub at : slice_get log place ≡ Some statement
+  pub form : creates statement.form ≡ true
 
 -- whether the outcome is that of a completed transaction
 abbrev pub is_completed : Outcome → Bool

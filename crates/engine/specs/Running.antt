@@ -1,13 +1,17 @@
 -- How a range of a log is run over what is before it. In the order of the log the versions that a transaction reads are the newest, and
 -- what it writes are versions of its place: J. M. Faleiro and D. J. Abadi, "Rethinking Serializable Multiversion Concurrency Control",
 -- PVLDB 8 (2015), section 3. That a place is cut off again where memory runs out is this project's own.
-use Rattle.std.specs.Prelude.{◌≡◌, ◌≤◌, ◌-◌, ◌++◌, ℕ, List, length}
+use Rattle.std.specs.Prelude.{◌≡◌, ◌<◌, ◌≤◌, ◌-◌, ◌++◌, ℕ, List, Some, length, slice_get}
+use Rattle.model_base.specs.declared.limits.TheConstants.{MOST_PLACES}
 use Rattle.model_base.specs.declared.row.Key.{Key}
 use Rattle.model_base.specs.declared.outcome.Outcome.{Outcome}
 use Rattle.model_base.specs.declared.statement.Statement.{Statement}
-use Rattle.chains.specs.Store.{cut_store, of_key, versions_between}
-use Rattle.grants_base.specs.Book.{cut_book}
+use Rattle.chains.specs.Store.{Store, cut_store, of_key, versions_between}
+use Rattle.grants_base.specs.Book.{Entries, cut_book}
+use Rattle.sequencer.specs.Log.{Accepted}
 use Rattle.sequencer.specs.Tail.{Tail}
+use Rattle.sequencer.specs.Whole.{IsAccepted}
+use Rattle.engine.specs.Known.{AreKnown, AreNamed}
 use Rattle.engine.specs.declared.state.RunState.{RunState}
 use Rattle.engine.specs.RunState.{IsRunState}
 use Rattle.filling.specs.FinishedRange.{AreOutcomes}
@@ -18,6 +22,24 @@ pub record IsNextRange (tail : Tail) (first end : ℕ) (state : RunState) : Type
   pub kept : tail.dropped ≤ first
   pub within : end ≤ length tail.log.statements
   pub stands : IsRunState tail.log.statements first state.chains state.book
+
+-- the place of the log has this statement, and the state is the one before it
+pub record IsNextPlace (log : Accepted) (place : ℕ) (statement : Statement) (store : Store) (book : Entries) : Type 0 where
+  pub few : place < MOST_PLACES
+  pub at : slice_get log.statements place ≡ Some statement
+  pub taken : IsAccepted log.names statement
+  pub known : AreKnown log.statements
+  pub named : AreNamed log.statements
+  pub stands : IsRunState log.statements place store book
+
+-- a place of this log whose statement is kept, and the state is the one before it
+pub record IsKeptPlace (tail : Tail) (log : Accepted) (place : ℕ) (store : Store) (book : Entries) : Type 0 where
+  pub same : tail.log ≡ log
+  pub kept : tail.dropped ≤ place
+  pub within : place < length log.statements
+  pub known : AreKnown log.statements
+  pub named : AreNamed log.statements
+  pub stands : IsRunState log.statements place store book
 
 -- what was added is of this place or of later ones: cut there or below, the state is what it was
 pub record AddsFrom (place : ℕ) (before after : RunState) : Type 0 where

@@ -1,10 +1,10 @@
 //! A log run batch by batch.
 //!
-//! `Engine` has a log, outcomes, rows and book. `push`, `push_read` and `push_foretold` take statements; `run_to` and
-//! `run_batch` run the next range, in order (`run_in_order`) or by a `Crew` of several workers (`execute`, `advance`),
-//! under one contract: the outcomes are the log's. `forget` drops finished statements and outcomes, `trim` and `sweep`
-//! old rows. `grantees_of` says to whom some records are. On `Err`, out of memory or a thread that couldn't be started,
-//! the engine is unchanged, and the batch can be run again. `RememberingBook` remembers needs found held, up to the next
+//! `Engine` has a log, outcomes, rows and book. `push` and `push_read` take statements; `run_to` and `run_batch` run the
+//! next range, in order (`run_in_order`) or by a `Crew` of several workers (`execute`, `advance`), under one contract: the
+//! outcomes are the log's. `run_foretold` runs a statement from where it is. `forget` drops finished statements and
+//! outcomes, `trim` and `sweep` old rows. `grantees_of` says to whom some records are. On `Err`, out of memory or a
+//! thread that couldn't be started, the engine is unchanged. `RememberingBook` remembers needs found held, up to the next
 //! revocation.
 //!
 //! A place costs its needs, its steps and the rows that it writes. Log, rows and book are never copied.

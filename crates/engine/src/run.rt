@@ -9,9 +9,10 @@ use crate::commit::advance;
 use crate::crew::Crew;
 use crate::executing::execute;
 use crate::grantees::recorded_grantees;
-use crate::in_order::run_in_order;
+use crate::in_order::{run_in_order, run_next};
 use crate::remembering::RememberingBook;
 use crate::state::RunState;
+use body::Window;
 use chains::{BadMark, Chains, Trimmed};
 use filling::{DecodedBatch, take};
 use grants::Book;
@@ -155,7 +156,7 @@ fn run_range<T: Threads + Wait + Sync, G: Gate + Sync>(
 }
 
 impl Engine {
-    ghost use Rattle.std.specs.Prelude.{◌↔◌, ◌⊎◌, ◌||◌, false, Option, None, Some, IfErr, IfOk, OnErr, OnOk, drop, is_err, map, nat_lt, slice_get};
+    ghost use Rattle.std.specs.Prelude.{◌↔◌, ◌⊎◌, ◌||◌, false, Option, None, Some, IfErr, IfOk, OnErr, OnOk, drop, is_err, map, nat_lt};
     ghost use Rattle.std.specs.Option.{MatchOption};
     ghost use Rattle.model_base.specs.Outcomes.{deeds_before, outcome, owners, rows_before};
     ghost use Rattle.model_base.specs.RecordGrantees.{WereGranted, grantee_at};
@@ -166,7 +167,7 @@ impl Engine {
     ghost use Rattle.sequencer.specs.Foretelling.{IsForetold};
     ghost use Rattle.sequencer.specs.Log.{empty_log, in_version, with_accepted};
     ghost use Rattle.sequencer.specs.Pushing.{Pushes};
-    ghost use Rattle.engine.specs.Engine.{IsRun, RunsTo, finished, may_run};
+    ghost use Rattle.engine.specs.Engine.{IsRun, RunsNext, RunsTo, finished, may_run};
 
     /// An engine without places. It doesn't allocate.
     pub fn new(alloc: Global) -> Self
@@ -261,30 +262,6 @@ impl Engine {
         self.log.push_read(read)
     }
 
-    /// Takes a statement that was foretold as the next place, and leaves another one, of which nothing is known. On `Err` memory was
-    /// refused, and engine and statement are as they were.
-    pub fn push_foretold(&mut self, statement: &mut Statement) -> Result<Place, AllocError>
-        requires place { length self.old.log.statements < MOST_PLACES }
-        requires foretold { (sentence : Sentence) × (IsInGrammar sentence × IsForetold self.old.log.names sentence statement.old) }
-        ensures place { IfOk result (λ place. place ≡ length self.old.log.statements) }
-        ensures accepted { OnOk result ((sentence : Sentence) → IsForetold self.old.log.names sentence statement.old
-            → self.new ≡ record self.old { log = with_accepted self.old.log sentence }) }
-        ensures err { OnErr result (self.new ≡ self.old) }
-        ensures left { OnErr result (statement.new ≡ statement.old) }
-    {
-        let _dropped = self.log.dropped();
-        self.log.push_foretold(statement)
-    }
-
-    /// Exchanges a statement of no more use for the last one that was dropped, if there is one, whose memory may be used again. Nothing is
-    /// known of it.
-    pub fn give_dropped(&mut self, statement: &mut Statement)
-        ensures { self.new ≡ self.old }
-    {
-        let _dropped = self.log.dropped();
-        self.log.give_dropped(statement)
-    }
-
     /// To whom the grants of some records were made, in order. A record that isn't in the book is passed over. The time for each grows with
     /// the logarithm of the number of grants. An error means out of memory.
     pub fn grantees_of(
@@ -355,6 +332,28 @@ impl Engine {
             &mut self.outcomes,
         )?;
         Ok(())
+    }
+
+    /// Takes a statement that was foretold as the next place and runs it, from where it stays: neither it nor its outcome is kept. Nothing
+    /// finished is kept before it, and nothing waits. On `Err`, out of memory; the engine is as it was.
+    pub fn run_foretold(
+        &mut self,
+        alloc: Global,
+        statement: &Statement,
+        window: &mut Window,
+    ) -> Result<Outcome, AllocError>
+        requires none { self.old.dropped ≡ length self.old.log.statements }
+        requires place { length self.old.log.statements < MOST_PLACES }
+        requires foretold { (sentence : Sentence) × (IsInGrammar sentence × IsForetold self.old.log.names sentence statement.now) }
+        ensures runs { IfOk result (λ found. (sentence : Sentence) → IsForetold self.old.log.names sentence statement.now
+            → RunsNext sentence found self.old self.new) }
+        ensures err { OnErr result (self.new ≡ self.old) }
+    {
+        let _dropped = self.log.dropped();
+        let found = run_next(alloc, &mut self.state, window, &self.log, statement)?;
+        self.log.pass_foretold(statement);
+        self.past = self.past.with(&found);
+        Ok(found)
     }
 
     /// Whether the range may be run as the next batch, by this many workers and placers: it begins at `finished`, lies in the log and has 1

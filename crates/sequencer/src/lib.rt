@@ -4,7 +4,7 @@
 //! the catalog is unchanged, and out of memory is returned only if no test refuses. `Log` keeps every statement.
 //! `LogTail` may `forget` the first: these go into a `Past`, which has no bytes, so clauses still speak of the whole log.
 //! `Catalog::foretell` numbers a statement before its turn, and the result holds whatever is admitted before it;
-//! `take_foretold` takes it, and `catch_up` learns another catalog's names.
+//! `LogTail::pass_foretold` takes it, and `catch_up` learns another catalog's names.
 //!
 //! A name is found by its hash, and a statement costs its accesses and steps. Lists come from forgotten statements, by
 //! `StatementBuffers`.

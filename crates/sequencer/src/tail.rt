@@ -1,6 +1,6 @@
 //! The end of a log, of which the first statements aren't kept.
 
-ghost use Rattle.std.specs.Prelude.{◌≡◌, ◌<◌, ◌≤◌, None, Some, [], drop, length, max, slice_get, vec_capacity, All, IfOk, OnOk, OnErr};
+ghost use Rattle.std.specs.Prelude.{◌≡◌, ◌<◌, ◌≤◌, ◌+◌, None, Some, [], drop, length, max, slice_get, vec_capacity, All};
 ghost use Rattle.log_text.specs.LineBuffers.{sentence_of};
 ghost use Rattle.log_text.specs.Statement.{IsInGrammar, Sentence};
 ghost use Rattle.model_base.specs.Growing.{NeedsOwnTables};
@@ -16,7 +16,7 @@ use crate::refused::Refused;
 use crate::statement_buffers::StatementBuffers;
 use log_text::{LineBuffers, RawForm, RawStatement, Version};
 use model_base::{Form, HashSeed, MOST_COLUMNS, MOST_PLACES, Place, Statement, Table, User};
-use std::alloc::{AllocError, Global};
+use std::alloc::Global;
 use std::marker::Model;
 use std::mem;
 
@@ -88,17 +88,6 @@ fn drop_kept(spare: &mut Vec<Statement>, kept: &mut Vec<Statement>)
         let _appended = spare.append(kept);
     }
     kept.clear();
-}
-
-/// A statement that holds no memory.
-fn no_statement() -> Statement {
-    Statement {
-        user: User(0),
-        form: Form::Create {
-            table: Table(0),
-            columns: 0,
-        },
-    }
 }
 
 impl LogTail {
@@ -179,33 +168,17 @@ impl LogTail {
         }
     }
 
-    /// Takes a statement that was foretold as the next place, which is the length until then, and leaves another one, of which nothing is
-    /// known. On `Err`, out of memory, log and statement are as they were.
-    pub fn push_foretold(&mut self, statement: &mut Statement) -> Result<Place, AllocError>
+    /// Takes a statement that was foretold as the next place, which is the length until then, and keeps nothing of it. No statement is kept
+    /// before it.
+    pub fn pass_foretold(&mut self, statement: &Statement)
+        requires none { self.old.dropped ≡ length self.old.log.statements }
         requires place { length self.old.log.statements < MOST_PLACES }
-        requires foretold { (sentence : Sentence) × (IsInGrammar sentence × IsForetold self.old.log.names sentence statement.old) }
-        ensures place { IfOk result (λ place. place ≡ length self.old.log.statements) }
-        ensures accepted { OnOk result ((sentence : Sentence) → IsForetold self.old.log.names sentence statement.old
-            → self.new ≡ record self.old { log = with_accepted self.old.log sentence }) }
-        ensures err { OnErr result (self.new ≡ self.old) }
-        ensures left { OnErr result (statement.new ≡ statement.old) }
+        requires foretold { (sentence : Sentence) × (IsInGrammar sentence × IsForetold self.old.log.names sentence statement.now) }
+        ensures { (sentence : Sentence) → IsForetold self.old.log.names sentence statement.now
+            → self.new ≡ record { log = with_accepted self.old.log sentence; dropped = self.old.dropped + 1 } }
     {
-        self.kept.reserve(1)?;
-        let place = self.catalog.places();
-        let taken = mem::replace(statement, no_statement());
         self.catalog.take_foretold();
-        self.kept.push_reserved(taken);
-        Ok(place)
-    }
-
-    /// Exchanges a statement of no more use for the last one that was dropped, if there is one, whose memory may be used again. Nothing is
-    /// known of it.
-    pub fn give_dropped(&mut self, statement: &mut Statement)
-        ensures { self.new ≡ self.old }
-    {
-        if let Some(dropped) = self.spare.pop() {
-            *statement = dropped;
-        }
+        self.past = self.past.with(statement);
     }
 
     /// How many statements were accepted, which is the place of the next one.

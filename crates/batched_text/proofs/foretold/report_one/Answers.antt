@@ -1,45 +1,5 @@
-use Rattle.std.proofs.Common.{inl, ℕ, subst, sym, ◌∙◌}
-use Rattle.std.specs.Prelude.{Err, Ok}
-use Rattle.sequencer.specs.Whole.{IsWhole}
-use Rattle.batched_text.specs.Foretold.{Runs, TakesAt}
-use Rattle.batched_text.specs.declared.batching.Batching.{Batching}
-use Rattle.batched_text.proofs.Cutting.{filled}
-use Rattle.batched_text.proofs.RunLines.{runs_fault, runs_line, runs_none, runs_told}
+use Rattle.batched_text.proofs.RunLines.{runs_none}
 use Rattle.batched_text.proofs.foretold.report_one.Goals as goal
-
-pub report_full-requires-clause-filling : goal.report_full-requires-clause-filling
-report_full-requires-clause-filling g c κs within =
-    let took = rw c.in-Some.is at c.in_ok-count.ensures.ok in
-    filled c.args.runner.now.plan c.args.batching.now c.take_ahead.new.batching took.reading c.requires.ready.ready.room took.takes
-    (subst IsWhole c.log.ensures.value c.dropped-dropped.ensures.whole)
-
-pub returns-in_err-count : goal.returns-in_err-count
-returns-in_err-count g c =
-    let fault = c.in_err-count.field-0.0 in
-    runs_told c.args.runner.now.plan c.args.buffered.now c.args.from c.args.batching.now c.take_ahead.new.batching fault c.from_residual.result
-    (runs_fault c.args.runner.now.plan c.args.buffered.now c.args.from c.args.batching.now c.take_ahead.new.batching (Err fault) c.in_err-count.ensures.pending (inl c.in_err-count.ensures.err))
-    c.from_residual.ensures.1
-
-pub returns-in_default : goal.returns-in_default
-returns-in_default g c =
-    let same = rw c.in_default.is at c.in_ok-count.ensures.ok in
-    subst (λ (new : Batching). Runs c.args.runner.now.plan c.args.buffered.now c.args.from c.args.batching.now new (Ok c.args.from)) (sym same)
-    (runs_none c.args.runner.now.plan c.args.buffered.now c.args.from c.args.batching.now c.requires.within c.requires.ready)
-
-pub returns-in_err-report_full : goal.returns-in_err-report_full
-returns-in_err-report_full g c =
-    let fault = c.in_err-report_full.field-0.0 in
-    runs_told c.args.runner.now.plan c.args.buffered.now c.args.from c.args.batching.now c.report_full.new.batching fault c.from_residual-in_err-report_full.result
-    (runs_fault c.args.runner.now.plan c.args.buffered.now c.args.from c.args.batching.now c.report_full.new.batching (Err fault)
-    (c.in_err-report_full.ensures.err.1 ∙ c.in_ok-count.ensures.pending) c.in_err-report_full.ensures.err.0)
-    c.from_residual-in_err-report_full.ensures.1
-
-pub returns : goal.returns
-returns g c =
-    let taken = rw c.in-Some.is at c.in_ok-count.ensures.ok in
-    let put = c.in_ok-report_full.ensures.reports in
-    runs_line c.args.runner.now.plan c.args.buffered.now c.args.from c.in-Some.count c.args.batching.now c.take_ahead.new.batching c.report_full.new.batching c.requires.ready
-    (subst (λ (from : ℕ). TakesAt c.args.buffered.now.bytes.now from c.in-Some.count c.args.batching.now c.take_ahead.new.batching) c.if-ahead-from.false taken) put
 
 pub returns-then-ahead-from : goal.returns-then-ahead-from
 returns-then-ahead-from g c = runs_none c.args.runner.now.plan c.args.buffered.now c.args.from c.args.batching.now c.requires.within c.requires.ready

@@ -15,50 +15,47 @@ use Rattle.engine.proofs.Making.{below_here, first_granting, is_held, made_none,
 use Rattle.engine.proofs.booking.make.Goals as goal
 
 pub returns-in-None-clause-ok : goal.returns-in-None-clause-ok
-returns-in-None-clause-ok c =
-    let past = deeds_before c.args.log.now.log.statements c.args.place in
-    made_none c.args.log.now.log.statements c.args.place c.args.book.now c.requires.stands c.requires.owners
+returns-in-None-clause-ok g c =
+    let past = deeds_before g.log.statements c.args.place in
+    made_none g.log.statements c.args.place c.args.book.now c.requires.stands c.requires.owners
     (c.requires.next ∙ ap (λ (ds : List Deed). past ++ ds) c.in-None.ensures.0 ∙ append-nil past)
 
 pub grant-requires-clause-later : goal.grant-requires-clause-later
-grant-requires-clause-later c =
+grant-requires-clause-later g c =
     let left : List Deed = c.next.new.self in
     let split : c.args.deeds.now ≡ Granting c.in-Some-Granting.grant ∷ left = c.in-Some-Granting.ensures ∙ ap (λ (d : Deed). d ∷ left) c.in-Some-Granting.field-0-is in
-    may_next c.args.log.now.log.statements c.args.place c.args.book.now c.in-Some-Granting.grant left
-    (making_first c.args.log.now.log.statements c.args.place c.args.book.now c.requires.stands c.requires.owners c.args.deeds.now c.requires.next c.requires.at
-    c.requires.one c.requires.table c.in-Some-Granting.grant left split)
+    may_next g.log.statements c.args.place c.args.book.now c.in-Some-Granting.grant left
+    (making_first g.log.statements c.args.place c.args.book.now c.requires.stands c.requires.owners c.args.deeds.now c.requires.next c.requires.at
+    c.requires.one c.requires.tables c.in-Some-Granting.grant left split)
 
 pub grant-requires-clause-table : goal.grant-requires-clause-table
-grant-requires-clause-table c =
+grant-requires-clause-table g c =
     let left : List Deed = c.next.new.self in
     let split : c.args.deeds.now ≡ Granting c.in-Some-Granting.grant ∷ left = c.in-Some-Granting.ensures ∙ ap (λ (d : Deed). d ∷ left) c.in-Some-Granting.field-0-is in
-    on_table c.args.log.now.log.statements c.args.place c.args.book.now c.in-Some-Granting.grant left
-    (making_first c.args.log.now.log.statements c.args.place c.args.book.now c.requires.stands c.requires.owners c.args.deeds.now c.requires.next c.requires.at
-    c.requires.one c.requires.table c.in-Some-Granting.grant left split)
+    on_table g.log.statements c.args.place c.args.book.now c.in-Some-Granting.grant left
+    (making_first g.log.statements c.args.place c.args.book.now c.requires.stands c.requires.owners c.args.deeds.now c.requires.next c.requires.at
+    c.requires.one c.requires.tables c.in-Some-Granting.grant left split)
 
 pub grant-requires-clause-held : goal.grant-requires-clause-held
-grant-requires-clause-held c =
+grant-requires-clause-held g c =
     let left : List Deed = c.next.new.self in
     let split : c.args.deeds.now ≡ Granting c.in-Some-Granting.grant ∷ left = c.in-Some-Granting.ensures ∙ ap (λ (d : Deed). d ∷ left) c.in-Some-Granting.field-0-is in
-    is_held c.args.log.now.log.statements c.args.place c.args.book.now c.in-Some-Granting.grant left
-    (making_first c.args.log.now.log.statements c.args.place c.args.book.now c.requires.stands c.requires.owners c.args.deeds.now c.requires.next c.requires.at
-    c.requires.one c.requires.table c.in-Some-Granting.grant left split)
+    is_held g.log.statements c.args.place c.args.book.now c.in-Some-Granting.grant left
+    (making_first g.log.statements c.args.place c.args.book.now c.requires.stands c.requires.owners c.args.deeds.now c.requires.next c.requires.at
+    c.requires.one c.requires.tables c.in-Some-Granting.grant left split)
 
 pub make_grants-requires : goal.make_grants-requires
-make_grants-requires c =
+make_grants-requires g c =
     let left : List Deed = c.next.new.self in
     let split : c.args.deeds.now ≡ Granting c.in-Some-Granting.grant ∷ left = c.in-Some-Granting.ensures ∙ ap (λ (d : Deed). d ∷ left) c.in-Some-Granting.field-0-is in
-    let first = making_first c.args.log.now.log.statements c.args.place c.args.book.now c.requires.stands c.requires.owners c.args.deeds.now c.requires.next c.requires.at
-    c.requires.one c.requires.table c.in-Some-Granting.grant left split in
+    let first = making_first g.log.statements c.args.place c.args.book.now c.requires.stands c.requires.owners c.args.deeds.now c.requires.next c.requires.at
+    c.requires.one c.requires.tables c.in-Some-Granting.grant left split in
     let made = c.in_ok-grant-in-Some-Granting.ensures in
-    record {
-      making =
-          making_next c.args.log.now.log.statements c.args.place c.args.book.now c.in-Some-Granting.grant left first c.grant.new.self
-          made.ok made.after made.next made.later;
-    }
+    making_next g.log.statements c.args.place c.args.book.now c.in-Some-Granting.grant left first c.grant.new.self
+    made.ok made.after made.next made.later
 
 pub returns-in_err-make_grants-in-Some-Granting-clause-cut : goal.returns-in_err-make_grants-in-Some-Granting-clause-cut
-returns-in_err-make_grants-in-Some-Granting-clause-cut c = λ first low.
+returns-in_err-make_grants-in-Some-Granting-clause-cut g c = λ first low.
     let left : List Deed = c.next.new.self in
     let split : c.args.deeds.now ≡ Granting c.in-Some-Granting.grant ∷ left = c.in-Some-Granting.ensures ∙ ap (λ (d : Deed). d ∷ left) c.in-Some-Granting.field-0-is in
     let at = first_granting c.args.place c.args.deeds.now c.requires.at c.in-Some-Granting.grant left split in
@@ -66,7 +63,7 @@ returns-in_err-make_grants-in-Some-Granting-clause-cut c = λ first low.
     ∙ cut_granted first c.args.book.now c.in-Some-Granting.grant (omega (arith, low, at))
 
 pub returns-in_ok-make_grants-in-Some-Granting-clause-cut : goal.returns-in_ok-make_grants-in-Some-Granting-clause-cut
-returns-in_ok-make_grants-in-Some-Granting-clause-cut c = λ first low.
+returns-in_ok-make_grants-in-Some-Granting-clause-cut g c = λ first low.
     let left : List Deed = c.next.new.self in
     let split : c.args.deeds.now ≡ Granting c.in-Some-Granting.grant ∷ left = c.in-Some-Granting.ensures ∙ ap (λ (d : Deed). d ∷ left) c.in-Some-Granting.field-0-is in
     let at = first_granting c.args.place c.args.deeds.now c.requires.at c.in-Some-Granting.grant left split in
@@ -74,8 +71,8 @@ returns-in_ok-make_grants-in-Some-Granting-clause-cut c = λ first low.
     ∙ cut_granted first c.args.book.now c.in-Some-Granting.grant (omega (arith, low, at))
 
 pub returns-in_ok-ended-in-Some-Revoking-clause-ok : goal.returns-in_ok-ended-in-Some-Revoking-clause-ok
-returns-in_ok-ended-in-Some-Revoking-clause-ok c =
-    let log = c.args.log.now.log.statements in
+returns-in_ok-ended-in-Some-Revoking-clause-ok g c =
+    let log = g.log.statements in
     let past = deeds_before log c.args.place in
     let left : List Deed = c.next.new.self in
     let revocation = c.in-Some-Revoking.revocation in
@@ -89,8 +86,8 @@ returns-in_ok-ended-in-Some-Revoking-clause-ok c =
     (found.later (c.args.place + 1) (omega (arith, at)))
 
 pub returns-in_ok-ended-in-Some-Revoking-clause-told : goal.returns-in_ok-ended-in-Some-Revoking-clause-told
-returns-in_ok-ended-in-Some-Revoking-clause-told c =
-    let log = c.args.log.now.log.statements in
+returns-in_ok-ended-in-Some-Revoking-clause-told g c =
+    let log = g.log.statements in
     let left : List Deed = c.next.new.self in
     let revocation = c.in-Some-Revoking.revocation in
     let split : c.args.deeds.now ≡ Revoking revocation ∷ left = c.in-Some-Revoking.ensures ∙ ap (λ (d : Deed). d ∷ left) c.in-Some-Revoking.field-0-is in
@@ -100,7 +97,7 @@ returns-in_ok-ended-in-Some-Revoking-clause-told c =
     ∙ ap (deed_done (owners log) (world_before log c.args.place)) (sym split)
 
 pub returns-in_ok-ended-in-Some-Revoking-clause-cut : goal.returns-in_ok-ended-in-Some-Revoking-clause-cut
-returns-in_ok-ended-in-Some-Revoking-clause-cut c = λ first low.
+returns-in_ok-ended-in-Some-Revoking-clause-cut g c = λ first low.
     let left : List Deed = c.next.new.self in
     let revocation = c.in-Some-Revoking.revocation in
     let split : c.args.deeds.now ≡ Revoking revocation ∷ left = c.in-Some-Revoking.ensures ∙ ap (λ (d : Deed). d ∷ left) c.in-Some-Revoking.field-0-is in

@@ -8,32 +8,32 @@ use Rattle.engine.proofs.Making.{here, is_held, making_next, may_next, on_table}
 use Rattle.engine.proofs.booking.make_grants.Goals as goal
 
 pub grant-requires-clause-later : goal.grant-requires-clause-later
-grant-requires-clause-later c =
-    let log = c.args.log.now.log.statements in
+grant-requires-clause-later g c =
+    let log = g.log.statements in
     let left : List Deed = c.next.new.self in
     let split : c.grants.rest ≡ Granting c.in-Some-Granting.grant ∷ left = c.in-Some-Granting.ensures ∙ ap (λ (d : Deed). d ∷ left) c.in-Some-Granting.field-0-is in
     may_next log c.args.place c.grants.book c.in-Some-Granting.grant left
     (subst (λ (ds : List Deed). IsMaking log c.args.place ds c.grants.book) split c.grants.invariant.making)
 
 pub grant-requires-clause-table : goal.grant-requires-clause-table
-grant-requires-clause-table c =
-    let log = c.args.log.now.log.statements in
+grant-requires-clause-table g c =
+    let log = g.log.statements in
     let left : List Deed = c.next.new.self in
     let split : c.grants.rest ≡ Granting c.in-Some-Granting.grant ∷ left = c.in-Some-Granting.ensures ∙ ap (λ (d : Deed). d ∷ left) c.in-Some-Granting.field-0-is in
     on_table log c.args.place c.grants.book c.in-Some-Granting.grant left
     (subst (λ (ds : List Deed). IsMaking log c.args.place ds c.grants.book) split c.grants.invariant.making)
 
 pub grant-requires-clause-held : goal.grant-requires-clause-held
-grant-requires-clause-held c =
-    let log = c.args.log.now.log.statements in
+grant-requires-clause-held g c =
+    let log = g.log.statements in
     let left : List Deed = c.next.new.self in
     let split : c.grants.rest ≡ Granting c.in-Some-Granting.grant ∷ left = c.in-Some-Granting.ensures ∙ ap (λ (d : Deed). d ∷ left) c.in-Some-Granting.field-0-is in
     is_held log c.args.place c.grants.book c.in-Some-Granting.grant left
     (subst (λ (ds : List Deed). IsMaking log c.args.place ds c.grants.book) split c.grants.invariant.making)
 
 pub grants-preserved : goal.grants-preserved
-grants-preserved c =
-    let log = c.args.log.now.log.statements in
+grants-preserved g c =
+    let log = g.log.statements in
     let grant = c.in-Some-Granting.grant in
     let left : List Deed = c.next.new.self in
     let split : c.grants.rest ≡ Granting grant ∷ left = c.in-Some-Granting.ensures ∙ ap (λ (d : Deed). d ∷ left) c.in-Some-Granting.field-0-is in

@@ -5,10 +5,10 @@ use Rattle.engine.proofs.booking.make_grants.Given as goal
 
 -- the grants that are left are to be made yet, and those that were made are of the place
 abbrev pub invariant-grants : goal.invariant-grants
-invariant-grants l = record {
-  making : IsMaking l.log.log.statements l.place l.rest l.book;
+invariant-grants g l = record {
+  making : IsMaking g.log.statements l.place l.rest l.book;
   cut : (first : ℕ) → first ≤ l.place → cut_book first l.book ≡ cut_book first l.initial.book;
 }
 
 abbrev pub decreases-grants : goal.decreases-grants
-decreases-grants l = length l.rest
+decreases-grants g l = length l.rest

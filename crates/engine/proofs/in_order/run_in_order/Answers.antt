@@ -20,13 +20,13 @@ loop-index-preserved g c =
     let pushed = c.push_reserved.ensures in
     let next : first + index + 1 ≡ first + (index + 1) = omega arith in
     record {
-      stands = subst (λ (n : ℕ). IsRunState log n c.run_place.new.state.chains c.run_place.new.state.book) next c.in-Ok.ensures.stands;
+      stands = subst (λ (n : ℕ). IsRunState log n c.run_kept.new.state.chains c.run_kept.new.state.book) next c.in-Ok.ensures.stands;
       versions = λ key.
-          more-behind key c.args.state.now.chains.versions c.loop-index.state.chains.versions c.run_place.new.state.chains.versions
+          more-behind key c.args.state.now.chains.versions c.loop-index.state.chains.versions c.run_kept.new.state.chains.versions
           (flat_map (versions_at log) (range_with_len first index)) (versions_at log (first + index))
           (flat_map (versions_at log) (range_with_len first (index + 1))) (c.in-Ok.ensures.versions key) (invariant.versions key)
           (versions_more log first index);
-      adds = adds-more first (first + index) c.args.state.now c.loop-index.state c.run_place.new.state (omega arith) invariant.adds c.run_place.ensures.adds;
+      adds = adds-more first (first + index) c.args.state.now c.loop-index.state c.run_kept.new.state (omega arith) invariant.adds c.run_kept.ensures.adds;
       came = (
         invariant.came.0 ++ one ∷ [],
         pushed.items ∙ ap (λ (items : List Outcome). items ++ one ∷ []) invariant.came.1 ∙ append_assoc c.reserve.new.self.items invariant.came.0 (one ∷ []),
@@ -38,6 +38,6 @@ loop-index-preserved g c =
 pub returns-in-Err-clause-state : goal.returns-in-Err-clause-state
 returns-in-Err-clause-state g c =
     let first = c.args.range.start in
-    cut_back c.args.log.now.log.statements first c.args.state.now c.run_place.new.state c.requires.next.stands c.mark-mark.ensures.whole
-    (adds-more first (first + c.loop-index.index) c.args.state.now c.loop-index.state c.run_place.new.state (omega arith) c.loop-index.invariant.adds c.run_place.ensures.adds)
+    cut_back c.args.log.now.log.statements first c.args.state.now c.run_kept.new.state c.requires.next.stands c.mark-mark.ensures.whole
+    (adds-more first (first + c.loop-index.index) c.args.state.now c.loop-index.state c.run_kept.new.state (omega arith) c.loop-index.invariant.adds c.run_kept.ensures.adds)
     c.cut.new.self c.cut-in-Err.new.self c.cut.ensures c.cut-in-Err.ensures.cut

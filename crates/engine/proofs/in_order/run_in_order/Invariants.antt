@@ -20,3 +20,6 @@ invariant-loop-index g l = record {
   came : (found : List Outcome) × (l.outcomes.items ≡ l.initial.outcomes.items ++ found) × AreOutcomes l.log.log.statements l.fn.range.start l.index found;
   room : vec_len l.outcomes + (l.size - l.index) ≤ vec_capacity l.outcomes;
 }
+
+abbrev pub ghost-run_kept : goal.ghost-run_kept
+ghost-run_kept g a = a.log.now.log

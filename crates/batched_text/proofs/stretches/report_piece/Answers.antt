@@ -1,0 +1,7 @@
+use Rattle.batched_text.proofs.RunLines.{runs_then}
+use Rattle.batched_text.proofs.stretches.report_piece.Goals as goal
+
+pub returns : goal.returns
+returns g c =
+    runs_then c.args.runner.now.plan c.args.ahead.now.buffered c.args.from c.in_ok-at.at c.args.batching.now c.report_foretold.new.batching c.report_until-2.new.batching
+    c.report_until-2.result c.in_ok-at.ensures c.report_until-2.ensures
