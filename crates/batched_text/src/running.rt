@@ -28,10 +28,7 @@ use line_io::{Counted, EngineFault, LineReader, flush, write_out, write_pending}
 use log_text::LineBuffers;
 use model_base::HashSeed;
 use std::alloc::{AllocError, Global};
-use std::io;
-use std::mem;
 use std::io::{Read, Write};
-use std::thread::join_mut;
 use std::sync::Wait;
 use std::thread::Threads;
 
@@ -89,117 +86,11 @@ fn lines_for(alloc: Global, reading: ReadingAhead) -> Result<LineReader, AllocEr
     LineReader::new(alloc)
 }
 
-/// Unproved. Bytes of whole lines and of the beginning of one more, from an index on.
-#[derive(Drop)]
-struct Chunk {
-    bytes: Vec<u8>,
-    start: usize,
-    end: usize,
-}
-
-/// Room before what is read for the beginning of a line that was read before.
-const GAP: usize = 65_536;
-const CHUNK: usize = 1 << 20;
-
-impl Chunk {
-    fn new(alloc: Global, room: usize) -> Result<Chunk, AllocError> {
-        Ok(Chunk { bytes: vec![in alloc; 0; GAP + room]?, start: GAP, end: GAP })
-    }
-}
-
-/// The number of bytes up to the last LF and with it.
-fn whole_of(bytes: &[u8]) -> usize {
-    let mut at = bytes.len();
-    while at > 0 && bytes[at - 1] != b'\n' {
-        at -= 1;
-    }
-    at
-}
-
-/// Unproved: deals with a stretch while the next chunk is read.
-fn deal_beside<T: Threads + Wait + Sync, R: Read + Send>(
-    runner: &Runner<T>,
-    reader: &mut Counted<R>,
-    lookahead: &mut Lookahead,
-    batching: &mut Batching,
-    now: &Chunk,
-    next: &mut Chunk,
-) -> (io::Result<usize>, Result<usize, EngineFault>) {
-    let buffered = Buffered { bytes: &now.bytes[now.start..now.end], given: reader.given };
-    let room = &mut next.bytes[GAP..];
-    join_mut(
-        runner.rt,
-        &mut || reader.read(&mut room[..]),
-        &mut || deal_at_hand(runner, lookahead, batching, &buffered),
-    )
-}
-
-/// Unproved: deals with what is left of a log from a source that never waits.
-fn run_stored<T: Threads + Wait + Sync, R: Read + Send, W: Write>(
-    runner: &Runner<T>,
-    reader: &mut Counted<R>,
-    writer: &mut Counted<W>,
-    batching: &mut Batching,
-    lookahead: &mut Lookahead,
-    carry: &[u8],
-) -> Result<(), EngineFault> {
-    let mut now = Chunk::new(runner.alloc, carry.len().max(GAP))?;
-    now.end = GAP + carry.len();
-    now.bytes[GAP..GAP + carry.len()].copy_from_slice(carry);
-    let mut next = Chunk::new(runner.alloc, 4 * GAP)?;
-    let mut is_read = false;
-    let mut is_over = false;
-    for _ in runner.rt.forever() {
-        let taken = if is_read || is_over {
-            let buffered = Buffered { bytes: &now.bytes[now.start..now.end], given: reader.given };
-            deal_at_hand(runner, lookahead, batching, &buffered)?
-        } else {
-            let (read, dealt) = deal_beside(runner, reader, lookahead, batching, &now, &mut next);
-            match read {
-                Ok(0) => is_over = true,
-                Ok(n) => {
-                    next.start = GAP;
-                    next.end = GAP + n;
-                    is_read = true;
-                }
-                Err(_) => return Err(EngineFault::Read),
-            }
-            dealt?
-        };
-        report_batch(runner, batching)?;
-        now.start += taken;
-        write_pending(writer, &mut batching.pending)?;
-        if whole_of(&now.bytes[now.start..now.end]) == 0 {
-            let left = now.end - now.start;
-            if is_read {
-                if left > GAP {
-                    return Err(EngineFault::NoMemory);
-                }
-                let from = GAP - left;
-                next.bytes[from..GAP].copy_from_slice(&now.bytes[now.start..now.end]);
-                next.start = from;
-                let room = (2 * (next.bytes.len() - GAP)).min(CHUNK);
-                let done = mem::replace(&mut now, next);
-                next = if done.bytes.len() < GAP + room { Chunk::new(runner.alloc, room)? } else { done };
-                is_read = false;
-            } else if is_over {
-                if left > 0 {
-                    let mut raw = LineBuffers::new(runner.alloc);
-                    deal(runner, batching, &now.bytes[now.start..now.end], &mut raw)?;
-                }
-                report_batch(runner, batching)?;
-                return Ok(());
-            }
-        }
-    }
-    Ok(())
-}
-
 /// Takes the lines of the input, and runs and reports all of it, the end of the report still pending. In each turn it takes a line, as
 /// `report_line`, and then whole buffered lines, as `deal_at_hand`. Then it reports the lines that wait, unless batches are full, and writes
 /// what is pending.
 #[tactic(auto, using(crate::proofs::Faults::run_stops, crate::proofs::Faults::run_told))]
-fn report_all<T: Threads + Wait + Sync, R: Read + Send, W: Write>(
+fn report_all<T: Threads + Wait + Sync, R: Read, W: Write>(
     runner: &Runner<T>,
     reader: &mut Counted<R>,
     writer: &mut Counted<W>,
@@ -222,11 +113,6 @@ fn report_all<T: Threads + Wait + Sync, R: Read + Send, W: Write>(
     let mut lines = lines_for(runner.alloc, reading)?;
     let seed = batching.engine.log().catalog().seed();
     let mut lookahead = Lookahead::seeded(runner.alloc, reading, seed);
-    if reading.threads > 0 {
-        if report_line(runner, reader, &mut lines, batching)? {
-            return run_stored(runner, reader, writer, batching, &mut lookahead, lines.bytes_ahead());
-        }
-    }
     'turns: while report_line(runner, reader, &mut lines, batching)? {
         let bytes = lines.bytes_ahead();
         let buffered = Buffered {
@@ -260,7 +146,7 @@ fn end_report<W: Write>(writer: &mut Counted<W>) -> Result<(), EngineFault>
 /// Reads a log to its end, runs it in batches, and writes its report, at a fault as much of it as was made; then the writer is
 /// flushed. No line was dealt with before.
 #[tactic(auto, using(crate::proofs::Faults::run_stops, crate::proofs::Faults::run_told))]
-fn run_batches<T: Threads + Wait + Sync, R: Read + Send, W: Write>(
+fn run_batches<T: Threads + Wait + Sync, R: Read, W: Write>(
     runner: &Runner<T>,
     reader: &mut Counted<R>,
     writer: &mut Counted<W>,
@@ -285,7 +171,7 @@ fn run_batches<T: Threads + Wait + Sync, R: Read + Send, W: Write>(
 /// Reads a log to its end, runs it in batches, and writes its report; the writer is flushed once, at the end. It returns the engine. Maps
 /// find their keys under `seed`.
 #[tactic(auto, using(crate::proofs::Faults::never_bad, crate::proofs::Faults::one_alone))]
-pub fn run_text<T: Threads + Wait + Sync, R: Read + Send, W: Write>(
+pub fn run_text<T: Threads + Wait + Sync, R: Read, W: Write>(
     rt: &T,
     alloc: Global,
     reader: &mut Counted<R>,
@@ -326,7 +212,7 @@ pub fn run_text<T: Threads + Wait + Sync, R: Read + Send, W: Write>(
 /// Writes the report of a log as `run_text`, but drops what is finished. Where bytes arrive `Live` a batch ends before the reader may wait;
 /// where they are `Stored` each but the last one is full.
 #[tactic(auto, using(crate::proofs::Faults::never_bad, crate::proofs::Faults::one_alone))]
-pub fn report_text<T: Threads + Wait + Sync, R: Read + Send, W: Write>(
+pub fn report_text<T: Threads + Wait + Sync, R: Read, W: Write>(
     rt: &T,
     alloc: Global,
     reader: &mut Counted<R>,
@@ -359,7 +245,7 @@ pub fn report_text<T: Threads + Wait + Sync, R: Read + Send, W: Write>(
 /// Writes the report of a log that it runs in order on this thread, while as many more as `reading` says read lines ahead. Nothing finished
 /// is kept. Before the reader is asked for more, what waits is written.
 #[tactic(auto, using(crate::proofs::Faults::in_order))]
-pub fn report_in_order<T: Threads + Wait + Sync, R: Read + Send, W: Write>(
+pub fn report_in_order<T: Threads + Wait + Sync, R: Read, W: Write>(
     rt: &T,
     alloc: Global,
     reader: &mut Counted<R>,
