@@ -23,7 +23,7 @@ mod reporting;
 mod runner;
 mod running;
 mod settings;
-mod phases;
+mod stretches;
 
 pub use laws::reports_stand;
 pub use lines::take_text;

@@ -9,9 +9,7 @@ use crate::batching::Batching;
 use crate::buffered::Buffered;
 use crate::foretold::report_until;
 use crate::runner::Runner;
-use crate::phases::run_fed;
-use line_io::{Counted, LineReader};
-use std::io::Read;
+use crate::stretches::{Extent, Ran, run_ahead};
 use bohm_base::EngineFault;
 use log_text::LineBuffers;
 use model_base::HashSeed;
@@ -105,32 +103,43 @@ impl Lookahead {
     }
 }
 
-/// Prototype.
-pub(crate) fn deal_at_hand<T: Threads + Wait + Sync, R: Read + Send>(
+/// Deals with whole lines at the front of the bytes: a stretch of them, with lines read before their turn in the version of the log, where
+/// threads are to do so and it pays, and otherwise all of them, which share one room. It returns how many bytes those lines are.
+pub(crate) fn deal_at_hand<T: Threads + Wait + Sync>(
     runner: &Runner<T>,
     lookahead: &mut Lookahead,
     batching: &mut Batching,
-    reader: &mut Counted<R>,
-    lines: &mut LineReader,
-) -> Result<(), EngineFault>
+    buffered: &Buffered,
+) -> Result<usize, EngineFault>
+    requires begins { Begins lookahead.old.names (log_names batching.old) }
+    requires ready { IsReadyAt runner.now.plan batching.old buffered.now 0 }
+    ensures runs { Runs runner.now.plan buffered.now 0 batching.old batching.new result }
+    ensures names { OnOk result (Begins lookahead.new.names (log_names batching.new)) }
 {
-    let len = lines.bytes_ahead().len();
+    let len = buffered.bytes.len();
     if !lookahead.is_for(len) {
-        let given = reader.given;
-        let taken = {
-            let mut raw = LineBuffers::new(runner.alloc);
-            let buffered = Buffered { bytes: lines.bytes_ahead(), given };
-            report_until(runner, batching, &buffered, 0, len, &mut raw)?
-        };
-        lines.take_ahead(taken);
-        return Ok(());
+        let mut raw = LineBuffers::new(runner.alloc);
+        return report_until(runner, batching, buffered, 0, len, &mut raw);
     }
     let version = batching.engine.log().catalog().version();
     lookahead.names.set_version(version);
+    let to = lookahead.next_stretch(len);
+    let extent = Extent {
+        to,
+        pieces: lookahead.pieces_of(to),
+        threads: lookahead.ahead.threads,
+    };
     let spare = mem::replace(&mut lookahead.spare, Vec::new(runner.alloc));
-    let (result, spare) = run_fed::<Brand, T, R>(runner, batching, &lookahead.names, reader, lines, lookahead.ahead.threads, spare);
+    let before = mem::replace(batching, Batching::new(runner.alloc));
+    let names = &lookahead.names;
+    let (ran, spare) = run_ahead::<Brand, T>(runner, before, names, buffered, &extent, spare);
     lookahead.spare = spare;
-    result?;
+    let Ran {
+        batching: after,
+        result,
+    } = ran;
+    *batching = after;
+    let taken = result?;
     lookahead.learn(batching.engine.log().catalog());
-    Ok(())
+    Ok(taken)
 }

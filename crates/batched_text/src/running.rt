@@ -90,7 +90,7 @@ fn lines_for(alloc: Global, reading: ReadingAhead) -> Result<LineReader, AllocEr
 /// `report_line`, and then whole buffered lines, as `deal_at_hand`. Then it reports the lines that wait, unless batches are full, and writes
 /// what is pending.
 #[tactic(auto, using(crate::proofs::Faults::run_stops, crate::proofs::Faults::run_told))]
-fn report_all<T: Threads + Wait + Sync, R: Read + Send, W: Write>(
+fn report_all<T: Threads + Wait + Sync, R: Read, W: Write>(
     runner: &Runner<T>,
     reader: &mut Counted<R>,
     writer: &mut Counted<W>,
@@ -114,11 +114,17 @@ fn report_all<T: Threads + Wait + Sync, R: Read + Send, W: Write>(
     let seed = batching.engine.log().catalog().seed();
     let mut lookahead = Lookahead::seeded(runner.alloc, reading, seed);
     'turns: while report_line(runner, reader, &mut lines, batching)? {
-        deal_at_hand(runner, &mut lookahead, batching, reader, &mut lines)?;
+        let bytes = lines.bytes_ahead();
+        let buffered = Buffered {
+            bytes,
+            given: reader.given,
+        };
+        let taken = deal_at_hand(runner, &mut lookahead, batching, &buffered)?;
         match runner.plan.cut {
             Cut::WhenFull => {}
             Cut::BeforeReads => report_batch(runner, batching)?,
         }
+        lines.take_ahead(taken);
         write_pending(writer, &mut batching.pending)?;
     }
     report_batch(runner, batching)?;
@@ -140,7 +146,7 @@ fn end_report<W: Write>(writer: &mut Counted<W>) -> Result<(), EngineFault>
 /// Reads a log to its end, runs it in batches, and writes its report, at a fault as much of it as was made; then the writer is
 /// flushed. No line was dealt with before.
 #[tactic(auto, using(crate::proofs::Faults::run_stops, crate::proofs::Faults::run_told))]
-fn run_batches<T: Threads + Wait + Sync, R: Read + Send, W: Write>(
+fn run_batches<T: Threads + Wait + Sync, R: Read, W: Write>(
     runner: &Runner<T>,
     reader: &mut Counted<R>,
     writer: &mut Counted<W>,
@@ -165,7 +171,7 @@ fn run_batches<T: Threads + Wait + Sync, R: Read + Send, W: Write>(
 /// Reads a log to its end, runs it in batches, and writes its report; the writer is flushed once, at the end. It returns the engine. Maps
 /// find their keys under `seed`.
 #[tactic(auto, using(crate::proofs::Faults::never_bad, crate::proofs::Faults::one_alone))]
-pub fn run_text<T: Threads + Wait + Sync, R: Read + Send, W: Write>(
+pub fn run_text<T: Threads + Wait + Sync, R: Read, W: Write>(
     rt: &T,
     alloc: Global,
     reader: &mut Counted<R>,
@@ -206,7 +212,7 @@ pub fn run_text<T: Threads + Wait + Sync, R: Read + Send, W: Write>(
 /// Writes the report of a log as `run_text`, but drops what is finished. Where bytes arrive `Live` a batch ends before the reader may wait;
 /// where they are `Stored` each but the last one is full.
 #[tactic(auto, using(crate::proofs::Faults::never_bad, crate::proofs::Faults::one_alone))]
-pub fn report_text<T: Threads + Wait + Sync, R: Read + Send, W: Write>(
+pub fn report_text<T: Threads + Wait + Sync, R: Read, W: Write>(
     rt: &T,
     alloc: Global,
     reader: &mut Counted<R>,
@@ -239,7 +245,7 @@ pub fn report_text<T: Threads + Wait + Sync, R: Read + Send, W: Write>(
 /// Writes the report of a log that it runs in order on this thread, while as many more as `reading` says read lines ahead. Nothing finished
 /// is kept. Before the reader is asked for more, what waits is written.
 #[tactic(auto, using(crate::proofs::Faults::in_order))]
-pub fn report_in_order<T: Threads + Wait + Sync, R: Read + Send, W: Write>(
+pub fn report_in_order<T: Threads + Wait + Sync, R: Read, W: Write>(
     rt: &T,
     alloc: Global,
     reader: &mut Counted<R>,

@@ -6,12 +6,12 @@ ghost use Rattle.bohm.specs.Failing.{FollowsFault, MayGiveReason};
 
 use command_line::{ProgramFault, Source, WorkFault};
 use std::alloc::{AllocError, Global};
-use std::sync::Mutex;
+use std::cell::Cell;
 use std::io::Write;
 use std::{fmt, io};
 
 /// Why the last call of a kind failed, if it did.
-pub type Reason = Mutex<Option<io::Error>>;
+pub type Reason = Cell<Option<io::Error>>;
 
 /// Why the last read of the log and the last write of what is told failed, if they did.
 #[derive(Drop)]
@@ -24,20 +24,18 @@ impl Reasons {
     /// None yet.
     pub fn new() -> Reasons {
         Reasons {
-            read: Mutex::new(None),
-            write: Mutex::new(None),
+            read: Cell::new(None),
+            write: Cell::new(None),
         }
     }
 }
 
 /// Notes whether a call failed, and why.
 pub fn note<T>(reason: &Reason, answer: &io::Result<T>) {
-    if let Some(mut reason) = reason.try_lock() {
-        *reason = match answer {
-            Ok(_) => None,
-            Err(error) => Some(*error),
-        };
-    }
+    reason.set(match answer {
+        Ok(_) => None,
+        Err(error) => Some(*error),
+    });
 }
 
 /// A writer that notes why the last write failed, if it did.
@@ -92,10 +90,7 @@ fn told_text(alloc: Global, words: &str, why: &str) -> Result<String, AllocError
 fn reason_text(alloc: Global, words: &str, reason: &Reason) -> String
     ensures { MayGiveReason words.now (string_bytes result) }
 {
-    let Some(found) = reason.try_lock() else {
-        return String::new(alloc);
-    };
-    let Some(error) = *found else {
+    let Some(error) = reason.get() else {
         return String::new(alloc);
     };
     let Ok(why) = format!(in alloc; "{error}") else {

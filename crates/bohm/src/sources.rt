@@ -61,8 +61,7 @@ fn arrival_of(size: Option<u64>) -> Arrival
     }
 }
 
-impl<'a, R: Files + Input + Clock + Eprint + Sync> Sources for SystemSources<'a, R>
-where R::Reader: Send, R::File: Send {
+impl<'a, R: Files + Input + Clock + Eprint> Sources for SystemSources<'a, R> {
     type Log = Watched<'a, R, SystemLog<R::Reader, R::File>>;
 
     // What the system has in its files is said by no clause.

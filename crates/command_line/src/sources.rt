@@ -21,7 +21,7 @@ pub struct Opened<L> {
 /// A type with this trait need not be `Drop`, and `open` takes the value: whoever is given sources opens one of them, and no second one.
 pub trait Sources {
     /// A reader of the log of a source.
-    type Log: Read + Drop + Send;
+    type Log: Read + Drop;
 
     // The bytes of the file of a path, or those that standard input still has where there is none, if they are known.
     ghost bytes: { Self → Option (List ℕ) → Option (List ℕ) };

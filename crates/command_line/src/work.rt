@@ -80,7 +80,7 @@ pub trait Job {
     /// Reads the log, as far as it has to, and writes what it says of it. After a fault a beginning of that was written, or nothing; `Read`
     /// and `Write` come only where the log's reader or the writer failed, `NoSuchPlace` only where the log has that many places and not this
     /// one, and then nothing is written. Ok comes only where neither failed and the writer was flushed, once, and not written to since.
-    fn work<T: Threads + Wait + Sync, R: Read + Send, W: Write>(
+    fn work<T: Threads + Wait + Sync, R: Read, W: Write>(
         &self,
         rt: &T,
         alloc: Global,
@@ -134,7 +134,7 @@ pub struct SeededJob {
 impl Job for SeededJob {
     ghost answers = { λ _. MayAnswer };
 
-    fn work<T: Threads + Wait + Sync, R: Read + Send, W: Write>(
+    fn work<T: Threads + Wait + Sync, R: Read, W: Write>(
         &self,
         rt: &T,
         alloc: Global,

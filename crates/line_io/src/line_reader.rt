@@ -211,41 +211,6 @@ impl LineReader {
         Ok(more)
     }
 
-    /// Moves what is ahead to the front of the buffer, and takes a longer buffer where that fills it and it may grow. What was found of a
-    /// line is gone.
-    fn make_room(&mut self) {
-        let len = self.end - self.start;
-        if self.start > 0 {
-            self.buffer.as_mut_slice().copy_within(self.start..self.end, 0);
-        }
-        self.start = 0;
-        self.end = len;
-        self.line_start = 0;
-        self.line_end = 0;
-        let bytes = self.buffer.len();
-        if len < bytes || bytes >= self.most {
-            return;
-        }
-        let wanted = self.most.min(2 * bytes);
-        let _grown = self.buffer.resize(wanted, 0);
-    }
-
-    /// Reads once more after what is ahead. False at the end of what the reader gives, and where there is no room.
-    pub fn read_more<R: Read>(&mut self, reader: &mut Counted<R>) -> Result<bool, ReadFault> {
-        self.make_room();
-        let end = self.end;
-        if end == self.buffer.len() {
-            return Ok(false);
-        }
-        match reader.read(&mut self.buffer[end..]) {
-            Ok(n) => {
-                self.end = end + n;
-                Ok(n > 0)
-            }
-            Err(_) => Err(ReadFault::Read),
-        }
-    }
-
     #[tactic(auto, using(crate::proofs::Pieces::keep_piece))]
     /// Keeps the next n bytes ahead after what is kept, up to `KEPT_BYTES` in all.
     fn keep(&mut self, n: usize) -> Result<(), AllocError>

@@ -10,16 +10,12 @@
 
 mod ahead;
 mod cutting;
-mod feed;
-mod feeding;
 mod piece;
 mod reading;
 mod stretch;
 
 pub use ahead::{Ahead, Found};
 pub use cutting::piece_cuts;
-pub use feed::{Chunk, Feed, FeedBasis};
-pub use feeding::{Fed, feed_all};
 pub use piece::Piece;
 pub use reading::{MOST_LINES_AHEAD, foretell_lines};
 pub use stretch::{Basis, Stretch};

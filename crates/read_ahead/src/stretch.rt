@@ -65,7 +65,7 @@ struct Place<B: Basis> {
 
 /// Pieces that were run, and are filled again.
 #[derive(Drop)]
-pub(crate) struct SparePieces {
+struct SparePieces {
     pieces: Vec<Piece>,
     /// How many of them are kept at most.
     most: usize,
@@ -74,7 +74,7 @@ pub(crate) struct SparePieces {
 
 impl SparePieces {
     /// These pieces, with up to this many.
-    pub(crate) fn new(pieces: Vec<Piece>, most: usize) -> Self
+    fn new(pieces: Vec<Piece>, most: usize) -> Self
         ensures { result.most ≡ max most (vec_len pieces) }
     {
         SparePieces {
@@ -84,7 +84,7 @@ impl SparePieces {
     }
 
     /// Keeps a piece, unless as many are kept as there may be.
-    pub(crate) fn keep(&mut self, piece: Piece)
+    fn keep(&mut self, piece: Piece)
         ensures { self.new.most ≡ self.old.most }
     {
         if self.pieces.len() < self.most {
@@ -93,13 +93,13 @@ impl SparePieces {
     }
 
     /// The piece that was kept last, if there is one.
-    pub(crate) fn take(&mut self) -> Option<Piece>
+    fn take(&mut self) -> Option<Piece>
         ensures { self.new.most ≡ self.old.most }
     {
         self.pieces.pop()
     }
 
-    pub(crate) fn into_pieces(self) -> Vec<Piece> {
+    fn into_pieces(self) -> Vec<Piece> {
         let SparePieces { pieces, .. } = self;
         pieces
     }
