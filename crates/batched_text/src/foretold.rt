@@ -204,10 +204,9 @@ pub(crate) fn report_until<'a, T: Threads + Wait + Sync>(
     Ok(at)
 }
 
-/// Deals with lines from an index of the bytes on, up to the last of those that were read ahead and with it. A line among them that was
-/// not read ahead is read now, and one that was is passed over where it doesn't begin where the lines before it end. It returns the
-/// index before which all is dealt with then.
-fn report_each<'a, T: Threads + Wait + Sync>(
+/// Deals with lines from an index of the bytes on, up to the last that was read ahead. Of those read ahead it passes over each that doesn't
+/// begin where the lines before it end; all others are read now. It returns the index before which all is dealt with then.
+pub(crate) fn report_foretold<'a, T: Threads + Wait + Sync>(
     runner: &Runner<T>,
     batching: &mut Batching,
     buffered: &Buffered<'a>,
@@ -225,24 +224,6 @@ fn report_each<'a, T: Threads + Wait + Sync>(
         let next = report_until(runner, batching, buffered, at, ahead.from, &mut room.raw)?;
         at = report_one(runner, batching, buffered, ahead, next, room)?;
     }
-    Ok(at)
-}
-
-/// Deals with lines that were read ahead, as `report_each`. Then it reports the lines that wait, unless batches are full.
-pub(crate) fn report_foretold<'a, T: Threads + Wait + Sync>(
-    runner: &Runner<T>,
-    batching: &mut Batching,
-    buffered: &Buffered<'a>,
-    lines: &[Ahead],
-    from: usize,
-    room: &mut Room<'a>,
-) -> Result<usize, EngineFault>
-    requires within { from ≤ length buffered.now.bytes.now }
-    requires ready { IsReadyAt runner.now.plan batching.old buffered.now from }
-    requires ahead { WereReadAhead (log_names batching.old) buffered.now.bytes.now lines.now }
-    ensures { Runs runner.now.plan buffered.now from batching.old batching.new result }
-{
-    let at = report_each(runner, batching, buffered, lines, from, room)?;
     match runner.plan.cut {
         Cut::WhenFull => {}
         Cut::BeforeReads => report_batch(runner, batching)?,

@@ -30,7 +30,7 @@ use std::ops::Range;
 use workers::Gate;
 
 /// What the statement of a place results in over the rows and the grants before it, and whether its body completed: the window has the rows
-/// after it then. It creates its table, or is denied, or its body is run and makes its deeds. On `Err`, out of memory.
+/// after it then. It makes its deeds.
 #[inline(always)]
 fn judge(
     alloc: Global,
@@ -169,8 +169,8 @@ pub(crate) fn run_next(
     }
 }
 
-/// Runs the places of a range, one after another, and appends their outcomes; the state is the one before the range's end then. The gate is
-/// notified of each place before it is run and once it is done. On `Err`, out of memory, state and outcomes are as they were.
+/// Runs the places of a range, one after another, and appends their outcomes. The gate is notified of each place before it is run and once
+/// it is done.
 pub fn run_in_order<G: Gate>(
     alloc: Global,
     state: &mut RunState,

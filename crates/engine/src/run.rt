@@ -277,10 +277,8 @@ impl Engine {
         recorded_grantees(alloc, book.records(), names)
     }
 
-    /// Runs the next places of the log, up to this one, as a batch, by this many workers and placers: by one worker in order, on this
-    /// thread. The gate is notified of each place before a worker asks for it, and by each worker once when it is done. Then the places are
-    /// finished: their outcomes are the log's, and rows and book are those before this place. On `Err`, out of memory or a worker's
-    /// thread could not be started; the engine is as it was, so that the batch can be run again.
+    /// Runs the next places of the log, up to this one, as a batch: by one worker in order, on this thread. The gate is notified of each
+    /// place, and by each worker when it is done. After an error the batch can be run again.
     pub fn run_to<T: Threads + Wait + Sync, G: Gate + Sync>(
         &mut self,
         rt: &T,
@@ -369,9 +367,8 @@ impl Engine {
             && (1 <= crew.partitions && crew.partitions <= MOST_PARTITIONS)
     }
 
-    /// Runs the range as the next batch, by this many workers and placers, as `run_to`. `BadSettings` is returned exactly where `may_run`
-    /// is false; any other error is `NoMemory`, or `Spawn` where a worker's thread could not be started. After an error the engine is as it
-    /// was, so that the batch can be run again.
+    /// Runs the range as the next batch, as `run_to`, where `may_run` allows it. `Spawn` says that a worker's thread could not be started.
+    /// After an error the batch can be run again.
     pub fn run_batch<T: Threads + Wait + Sync, G: Gate + Sync>(
         &mut self,
         rt: &T,
@@ -456,9 +453,8 @@ impl Engine {
         self.state.chains.row_before(place, key)
     }
 
-    /// Drops the versions of rows that give only what was before the places below the mark, and returns how many they were. From then on
-    /// the rows before these places aren't known. `BadMark` is returned exactly where the mark lies above `finished` or below the present
-    /// mark, and nothing changes then. It doesn't allocate, and costs what it drops.
+    /// Drops the versions of rows that only places below the mark can read, and returns how many they were. It doesn't allocate, and costs
+    /// what it drops.
     pub fn trim(&mut self, mark: Place) -> Result<usize, BadMark>
         ensures bad { is_err result ≡ (nat_lt mark self.old.store.mark || nat_lt (finished self.old) mark) }
         ensures ok { IfOk result (λ gone. Trims self.old.store self.new.store mark gone) }

@@ -1,5 +1,5 @@
 -- Lines that are read before their turn.
-use Rattle.std.specs.Prelude.{◌≡◌, ◌≢◌, ◌<◌, ◌≤◌, ◌+◌, ◌++◌, List, None, Some, drop, length, take, ℕ}
+use Rattle.std.specs.Prelude.{◌≡◌, ◌≢◌, ◌<◌, ◌≤◌, ◌+◌, ◌++◌, ◌∷◌, [], List, None, Some, drop, length, take, ℕ}
 use Rattle.line_io.specs.Lines.{first_line, other_lines}
 use Rattle.line_io.specs.declared.limits.TheConstants.{KEPT_BYTES}
 use Rattle.line_words.specs.declared.fault.LineFault.{LineFault}
@@ -35,3 +35,9 @@ pub record IsFoundOf (names : Names) (line : List ℕ) (found : Found) : Type 0 
 pub record IsAhead (names : Names) (bytes : List ℕ) (ahead : Ahead) : Type 0 where
   pub at : IsLineAt bytes ahead.from ahead.count (line_from bytes ahead.from)
   pub found : IsFoundOf names (line_from bytes ahead.from) ahead.found
+
+-- a line of this many bytes, which begins at an index, was read by these names, after the others
+pub record ReadsLine (names : Names) (line : List ℕ) (from count : ℕ) (old new : List Ahead) : Type 0 where
+  pub found : Found
+  pub reads : IsFoundOf names line found
+  pub added : new ≡ old ++ record { from = from; count = count; found = found } ∷ []

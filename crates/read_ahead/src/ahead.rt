@@ -5,7 +5,7 @@ ghost use Rattle.log_text.specs.Fault.{fault_in};
 ghost use Rattle.sequencer.specs.Catalog.{Names};
 ghost use Rattle.read_ahead.specs.Ahead.{IsFoundOf};
 
-use log_text::{LineBuffers, LineFault, read_line};
+use log_text::{LineBuffers, LineFault, read_into};
 use model_base::Statement;
 use sequencer::{Catalog, Recent, StatementBuffers};
 use std::alloc::Global;
@@ -13,7 +13,7 @@ use std::alloc::Global;
 /// What reading one line after another uses again: the buffers of lines and of statements, and the user and the table that were found last.
 #[derive(Drop)]
 pub(crate) struct ReadBuffers<'a> {
-    alloc: Global,
+    pub(crate) alloc: Global,
     recent: Recent,
     lines: LineBuffers<'a>,
     pub(crate) statements: StatementBuffers,
@@ -52,6 +52,17 @@ pub struct Ahead {
     pub found: Found,
 }
 
+impl Ahead {
+    /// A line of which nothing is known.
+    pub(crate) fn unread() -> Self {
+        Ahead {
+            from: 0,
+            count: 0,
+            found: Found::Unread,
+        }
+    }
+}
+
 /// What a line's fault gives. Out of memory says nothing.
 fn found_faulty(fault: LineFault) -> Found
     ensures { (names : Names) (line : List ℕ)
@@ -63,23 +74,28 @@ fn found_faulty(fault: LineFault) -> Found
     }
 }
 
-/// Reads a line in the version of the log, and numbers its statement by the names of an earlier place.
-pub(crate) fn found_of<'a>(
+/// Reads a line in the version of the log, and numbers its statement by the names of an earlier place. What was found of an earlier line
+/// is lost, but for the memory that it held.
+#[inline(always)]
+pub(crate) fn read_found<'a>(
     catalog: &Catalog,
     line: &'a [u8],
     buffers: &mut ReadBuffers<'a>,
-) -> Found
-    ensures { IsFoundOf catalog.now line.now result }
+    found: &mut Found,
+)
+    ensures { IsFoundOf catalog.now line.now found.new }
 {
+    if let Found::Known(statement) = found {
+        buffers.statements.take_over(buffers.alloc, statement);
+    }
     let version = catalog.version();
-    let statement = match read_line(buffers.alloc, version, line, &mut buffers.lines) {
-        Ok(statement) => statement,
-        Err(fault) => return found_faulty(fault),
-    };
-    let foretold = catalog.foretell(&mut buffers.recent, &statement, &mut buffers.statements);
-    buffers.lines.take_back(statement);
-    match foretold {
-        Some(statement) => Found::Known(statement),
-        None => Found::Unread,
+    if let Err(fault) = read_into(version, line, &mut buffers.lines) {
+        *found = found_faulty(fault);
+        return;
+    }
+    let (recent, statements) = (&mut buffers.recent, &mut buffers.statements);
+    match catalog.foretell(recent, &buffers.lines, statements) {
+        Some(statement) => *found = Found::Known(statement),
+        None => *found = Found::Unread,
     }
 }

@@ -2,10 +2,10 @@
 
 ghost use Rattle.std.specs.Prelude.{◌≡◌, ◌++◌, ◌∷◌, [], OnErr, OnOk};
 
-use crate::ahead::{Ahead, Found};
+use crate::ahead::{Ahead, ReadBuffers, read_found};
+use sequencer::Catalog;
 use std::alloc::{AllocError, Global};
 use std::marker::Model;
-use std::mem;
 
 /// By how many lines a full list grows. Many pieces wait at once, so that lists of twice the length would take much memory.
 const MORE_LINES: usize = 64;
@@ -43,7 +43,9 @@ impl Model for Piece {
 }
 
 impl Piece {
-    ghost use Rattle.std.specs.Prelude.{◌≡◌, ◌++◌, ◌∷◌, ◌≤◌, [], if◌then◌else◌, length, take};
+    ghost use Rattle.std.specs.Prelude.{◌≡◌, ◌≤◌, [], length, take};
+    ghost use Rattle.std.specs.Bool.{OnFalse, OnTrue};
+    ghost use Rattle.read_ahead.specs.Ahead.{ReadsLine};
 
     /// No lines. It doesn't allocate.
     pub fn new(alloc: Global) -> Self
@@ -96,18 +98,6 @@ impl Piece {
         self.len = 0;
     }
 
-    /// What was found of a line that is of no more use, if there is one where the next will go.
-    pub(crate) fn spare(&mut self) -> Found
-        ensures { self.new ≡ self.old }
-    {
-        if self.len < self.lines.len() {
-            let line = &mut self.lines[self.len];
-            mem::replace(&mut line.found, Found::Unread)
-        } else {
-            Found::Unread
-        }
-    }
-
     /// Gives back what lines that are of no more use hold.
     pub(crate) fn drop_spare(&mut self)
         ensures { self.new ≡ self.old }
@@ -115,15 +105,26 @@ impl Piece {
         self.lines.truncate(self.len);
     }
 
-    /// Appends a line to the others. False where memory ran out, and then nothing has changed.
-    pub(crate) fn put(&mut self, line: Ahead) -> bool
-        ensures { self.new ≡ (if result then self.old ++ line ∷ [] else self.old) }
+    /// Reads a line after the others, as `read_found`. False where memory ran out, and then nothing has changed.
+    #[inline(always)]
+    pub(crate) fn read<'a>(
+        &mut self,
+        catalog: &Catalog,
+        line: &'a [u8],
+        from: usize,
+        count: usize,
+        buffers: &mut ReadBuffers<'a>,
+    ) -> bool
+        ensures read { OnTrue result (ReadsLine catalog.now line.now from count self.old self.new) }
+        ensures same { OnFalse result (self.new ≡ self.old) }
     {
-        if self.len < self.lines.len() {
-            self.lines[self.len] = line;
-        } else if push_line(&mut self.lines, line).is_err() {
+        if self.len == self.lines.len() && push_line(&mut self.lines, Ahead::unread()).is_err() {
             return false;
         }
+        let next = &mut self.lines[self.len];
+        read_found(catalog, line, buffers, &mut next.found);
+        next.from = from;
+        next.count = count;
         self.len += 1;
         true
     }

@@ -3,7 +3,7 @@
 ghost use Rattle.std.specs.Prelude.{◌<◌, ◌≤◌, ◌+◌, All, IfSome, length};
 ghost use Rattle.read_ahead.specs.Ahead.{IsAhead};
 
-use crate::ahead::{Ahead, Found, ReadBuffers, found_of};
+use crate::ahead::ReadBuffers;
 use crate::piece::Piece;
 use line_io::cut_line;
 use sequencer::Catalog;
@@ -26,12 +26,7 @@ fn read_next<'a>(
     ensures ahead { All (IsAhead catalog.now bytes.now) piece.old → All (IsAhead catalog.now bytes.now) piece.new }
 {
     let (line, count) = cut_line(&bytes[at..])?;
-    if let Found::Known(statement) = piece.spare() {
-        buffers.statements.take_back(statement);
-    }
-    let found = found_of(catalog, line, buffers);
-    let from = at;
-    if piece.put(Ahead { from, count, found }) {
+    if piece.read(catalog, line, at, count, buffers) {
         Some(count)
     } else {
         None

@@ -1,6 +1,7 @@
 //! How a statement is numbered before its turn, by the names of an earlier place.
 
 ghost use Rattle.std.specs.Prelude.{◌≡◌, ◌<◌, ◌+◌, IfSome, OnErr, OnOk, OnSome, length, map, true};
+ghost use Rattle.log_text.specs.LineBuffers.{sentence_of};
 ghost use Rattle.sequencer.specs.Admitting.{deed_by, run_sentence};
 ghost use Rattle.sequencer.specs.Catalog.{numbered_deed, numbered_grantee};
 ghost use Rattle.sequencer.specs.Foretelling.{Begins, Foretells, Knows, KnowsDeed, KnowsDeedIn, foretold_as, is_known_grantee, with_one_place, with_tables_of};
@@ -10,19 +11,21 @@ ghost use Rattle.std.specs.List.{AllByRecursion};
 ghost use Rattle.std.specs.Option.{option_map};
 
 use crate::catalog::Catalog;
+use crate::names::{RECENT_NUMBERS, recent_place};
 use crate::numbering::deed_form;
 use crate::raw_run::RawRun;
 use crate::statement_buffers::StatementBuffers;
 use crate::testing::names_in;
-use log_text::{Name, RawDeed, RawForm, RawGrantee, RawGrantees, RawStatement};
+use log_text::{LineBuffers, Name, RawDeed, RawForm, RawGrantee, RawGrantees, RawStatement};
 use model_base::{DeedForm, Form, Grantee, Grantees, MOST_PLACES, Statement, Table, User};
 use std::alloc::AllocError;
 use std::mem;
 
-/// The user and the table that were found last. They say nothing of the names: they are only tried first.
+/// Users and the table that were found last. They say nothing of the names: they are only tried first.
 #[derive(Clone, Copy)]
 pub struct Recent {
-    user: User,
+    /// By the last bytes of their names, as a `NameTable` remembers its own.
+    users: [u32; RECENT_NUMBERS],
     table: Table,
 }
 
@@ -30,7 +33,7 @@ impl Recent {
     /// The first user and the first table.
     pub fn new() -> Self {
         Recent {
-            user: User(0),
+            users: [0; RECENT_NUMBERS],
             table: Table(0),
         }
     }
@@ -101,9 +104,10 @@ impl Catalog {
         ensures number { IfSome result (λ u. u ≡ number_of self.now.users user.now) }
         ensures known { OnSome result (is_known self.now.users user.now ≡ true) }
     {
-        let user = User(self.users.find_near(recent.user.0, user.as_str())?);
-        recent.user = user;
-        Some(user)
+        let place = recent_place(user.as_str().as_bytes());
+        let number = self.users.find_near(recent.users[place], user.as_str())?;
+        recent.users[place] = number;
+        Some(User(number))
     }
 
     /// A RUN, as `foretell`. Its accesses and steps go where room was made, and take it.
@@ -153,11 +157,8 @@ impl Catalog {
         Some(Statement { user, form })
     }
 
-    /// The statement that a sentence becomes at any later place of the log, whatever is accepted before: it passes the tests, makes no
-    /// table, and names nobody new. Nothing is returned where a test refuses it by these names, where it makes a table or names somebody
-    /// new, or where memory runs out; that promises nothing of it. It leaves the catalog as it is, so several threads may ask one
-    /// catalog. Room is lent as to `admit`.
-    pub fn foretell(
+    /// A statement that was read, as `foretell`, wherever it stays.
+    fn foretell_whole(
         &self,
         recent: &mut Recent,
         statement: &RawStatement<'_>,
@@ -182,6 +183,36 @@ impl Catalog {
             }
             RawForm::Deed(deed) => self.foretell_deed(recent, user, deed),
         }
+    }
+
+    /// The statement that a line becomes at any later place of the log, whatever is accepted before: it passes the tests, makes no table
+    /// and names nobody new. Nothing is promised where `None` is returned. Room is lent as to `admit`.
+    #[inline(always)]
+    pub fn foretell(
+        &self,
+        recent: &mut Recent,
+        read: &LineBuffers<'_>,
+        room: &mut StatementBuffers,
+    ) -> Option<Statement>
+        ensures { IfSome result (λ s. Foretells self.now (sentence_of read.now) s) }
+    {
+        if let Some(statement) = &read.other {
+            return self.foretell_whole(recent, statement, room);
+        }
+        if room
+            .reserve_for(read.accesses.len(), read.steps.len())
+            .is_err()
+        {
+            return None;
+        }
+        let _tables = self.tables();
+        let run = RawRun {
+            user: &read.user,
+            accesses: &read.accesses,
+            steps: &read.steps,
+            deed: &read.deed,
+        };
+        self.foretell_run(recent, &run, room)
     }
 
     /// Takes a statement that was foretold as the next place of the log.

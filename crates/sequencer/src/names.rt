@@ -11,11 +11,11 @@ use std::alloc::{AllocError, Global};
 use std::marker::Model;
 
 /// This many numbers are remembered.
-const RECENT_NUMBERS: usize = 256;
+pub(crate) const RECENT_NUMBERS: usize = 256;
 
 /// Where the number of a name is remembered: by its last bytes, so that names that count up are remembered in different places.
 #[inline(always)]
-fn recent_place(name: &[u8]) -> usize
+pub(crate) fn recent_place(name: &[u8]) -> usize
     ensures { result < RECENT_NUMBERS }
 {
     let len = name.len();

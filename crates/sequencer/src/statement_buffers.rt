@@ -8,11 +8,12 @@ ghost use Rattle.model_base.specs.declared.statement.Step.{Step};
 ghost use Rattle.sequencer.specs.Known.{HasRoom};
 
 use log_text::RawForm;
-use model_base::{Access, Form, Statement, Step};
+use model_base::{Access, Form, Items, Statement, Step};
 use std::alloc::{AllocError, Global};
+use std::mem;
 
 /// Where the accesses and the steps of a statement go when they are numbered. `admit` takes what a statement needs out of
-/// it, and `take_back` takes it back from a statement that is of no more use: so one after another needs no memory.
+/// it, and `take_over` takes it from a statement that is of no more use: so one after another needs no memory.
 #[derive(Drop)]
 pub struct StatementBuffers {
     pub(crate) accesses: Vec<Access>,
@@ -63,21 +64,22 @@ impl StatementBuffers {
         self.reserve_for(accesses, steps)
     }
 
-    /// Takes back what the statement held, with what is in it.
-    pub fn take_back(&mut self, statement: Statement)
+    /// Takes over what a statement holds that is of no more use, with what is in it.
+    #[inline(always)]
+    pub fn take_over(&mut self, alloc: Global, statement: &mut Statement)
         ensures accesses { (accesses : List Access) (steps : List Step) (deed : Option DeedForm)
-            → statement.form ≡ Form.Run accesses steps deed → self.new.accesses.items ≡ accesses }
+            → statement.old.form ≡ Form.Run accesses steps deed → self.new.accesses.items ≡ accesses }
         ensures steps { (accesses : List Access) (steps : List Step) (deed : Option DeedForm)
-            → statement.form ≡ Form.Run accesses steps deed → self.new.steps.items ≡ steps }
+            → statement.old.form ≡ Form.Run accesses steps deed → self.new.steps.items ≡ steps }
     {
         if let Form::Run {
             accesses,
             steps,
             ..
-        } = statement.form
+        } = &mut statement.form
         {
-            self.accesses = accesses.into_vec();
-            self.steps = steps.into_vec();
+            self.accesses = mem::replace(accesses, Items::empty(alloc)).into_vec();
+            self.steps = mem::replace(steps, Items::empty(alloc)).into_vec();
         }
     }
 }

@@ -119,9 +119,8 @@ impl LogTail {
         self.catalog.set_version(version);
     }
 
-    /// Takes a statement as the next place, which is the length until then. The first test that it doesn't pass refuses
-    /// it; one that passes is refused only where memory runs out. After a refusal the log is as it was. Its accesses and steps take
-    /// the memory of a dropped statement where that is enough.
+    /// Takes a statement as the next place. The first test that it doesn't pass refuses it. Its accesses and steps take the memory of a
+    /// dropped statement where that is enough.
     #[inline(always)]
     pub fn push(&mut self, statement: &RawStatement<'_>) -> Result<Place, Refused>
         ensures { Pushes self.old.log statement.now result self.old self.new

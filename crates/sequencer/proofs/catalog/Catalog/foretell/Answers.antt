@@ -1,18 +1,18 @@
-use Rattle.std.proofs.Common.{◌≡◌, subst, sym, ◌∙◌}
-use Rattle.std.specs.Prelude.{IfSome, OnSome}
+use Rattle.std.proofs.Common.{sym, ◌≡◌, ap}
+use Rattle.log_text.specs.LineBuffers.{other_or_run, sentence_of}
 use Rattle.log_text.specs.Statement.{Sentence}
-use Rattle.sequencer.specs.Foretelling.{Knows, foretold_as}
+use Rattle.log_text.specs.declared.statement.RawForm.{RawForm}
+use Rattle.log_text.specs.declared.statement.RawForm.TheVariants.{Run}
 use Rattle.sequencer.proofs.Foretold.{foretells_parts}
 use Rattle.sequencer.proofs.catalog.Catalog.foretell.Goals as goal
 
-pub returns-in-Run : goal.returns-in-Run
-returns-in-Run c =
-    let knows = subst (λ (s : Sentence). OnSome c.foretell_run.result (Knows c.args.self.now s)) c.of-run.ensures c.foretell_run.ensures.knows in
-    let number = subst (λ (s : Sentence). IfSome c.foretell_run.result (λ f. f ≡ foretold_as c.args.self.now s)) c.of-run.ensures c.foretell_run.ensures.number in
-    foretells_parts c.args.self.now c.args.statement.now _ _ _ c.tables-tables.ensures.columns c.name-user.ensures
-    (sym c.in-Run.is ∙ c.form-2.ensures.value) knows number
-
-pub returns-in-Deed : goal.returns-in-Deed
-returns-in-Deed c =
-    foretells_parts c.args.self.now c.args.statement.now _ _ _ c.tables-tables.ensures.columns c.name-user.ensures
-    (sym c.in-Deed.is ∙ c.form-2.ensures.value) c.foretell_deed.ensures.knows c.foretell_deed.ensures.number
+pub returns : goal.returns
+returns c =
+    let read = c.args.read.now in
+    let form : RawForm = Run read.accesses.items read.steps.items read.deed in
+    let one : Sentence = record { user = read.user; form = form } in
+    let is : sentence_of read ≡ one = ap (λ other. other_or_run other read.user read.accesses.items read.steps.items read.deed) c.in_default.is in
+    foretells_parts c.args.self.now (sentence_of read) read.user form c.foretell_run.result c.tables-tables.ensures.columns
+    (ap (λ (s : Sentence). s.user) (sym is)) (ap (λ (s : Sentence). s.form) (sym is))
+    (rw (c.deref.ensures.value, c.deref-2.ensures.value) at c.foretell_run.ensures.knows)
+    (rw (c.deref.ensures.value, c.deref-2.ensures.value) at c.foretell_run.ensures.number)
