@@ -209,30 +209,3 @@ pub(crate) fn report_single<T: Threads + Wait + Sync>(
     batching.number += 1;
     Ok(())
 }
-
-/// Prototype.
-pub(crate) fn report_flat_single<T: Threads + Wait + Sync>(
-    runner: &Runner<T>,
-    batching: &mut Batching,
-    run: &engine::FlatRun<'_>,
-    window: &mut Window,
-) -> Result<(), EngineFault> {
-    let place = batching.engine.finished();
-    let end = batching.engine.run_flat(run, window)?;
-    let mark = mark_behind(&runner.plan.settings, place, place + 1);
-    trim_to(&mut batching.engine, mark);
-    match end {
-        engine::FlatEnd::Done => report::put_outputs(&mut batching.pending, place, window.output_slice())?,
-        other => {
-            let outcome = match other {
-                engine::FlatEnd::Denied { need, cause } => model_base::Outcome::Denied { need, cause },
-                engine::FlatEnd::Aborted { step, reason } => model_base::Outcome::Aborted { step, reason },
-                engine::FlatEnd::Undeclared { step } => model_base::Outcome::Undeclared { step },
-                engine::FlatEnd::Done => model_base::Outcome::Created,
-            };
-            report::put_told(&mut batching.pending, batching.engine.log().catalog(), place, false, &outcome)?;
-        }
-    }
-    batching.number += 1;
-    Ok(())
-}

@@ -17,9 +17,7 @@ use bohm_base::{EngineFault, LineOutcome};
 use line_io::cut_line;
 use log_text::{LineBuffers, LineFault};
 use model_base::{MOST_PLACES, Statement};
-use read_ahead::{Ahead, Flat, FlatFound, FlatLine, Found};
-use engine::FlatRun;
-use crate::batching::report_flat_single;
+use read_ahead::{Ahead, Found};
 use std::alloc::Global;
 use std::sync::Wait;
 use std::thread::Threads;
@@ -225,75 +223,6 @@ pub(crate) fn report_foretold<'a, T: Threads + Wait + Sync>(
     'turns: for ahead in lines {
         let next = report_until(runner, batching, buffered, at, ahead.from, &mut room.raw)?;
         at = report_one(runner, batching, buffered, ahead, next, room)?;
-    }
-    match runner.plan.cut {
-        Cut::WhenFull => {}
-        Cut::BeforeReads => report_batch(runner, batching)?,
-    }
-    Ok(at)
-}
-
-/// Prototype.
-fn flat_one<'a, T: Threads + Wait + Sync>(
-    runner: &Runner<T>,
-    batching: &mut Batching,
-    buffered: &Buffered<'a>,
-    flat: &Flat,
-    line: &FlatLine,
-    first: usize,
-    first_op: usize,
-    room: &mut Room<'a>,
-) -> Result<usize, EngineFault> {
-    let from = line.from as usize;
-    let may_run = runner.plan.runs_singly() && batching.engine.log().len() < MOST_PLACES;
-    match &line.found {
-        FlatFound::Run { user, accesses, ops } if may_run => {
-            report_waiting(runner, batching)?;
-            let run = FlatRun { user: *user, accesses: &flat.accesses[first..*accesses as usize], ops: &flat.ops[first_op..*ops as usize] };
-            report_flat_single(runner, batching, &run, &mut room.window)?;
-            Ok(from + line.count as usize)
-        }
-        FlatFound::Known(index) if may_run => {
-            report_waiting(runner, batching)?;
-            report_single(runner, batching, &flat.others[*index as usize], &mut room.window)?;
-            Ok(from + line.count as usize)
-        }
-        FlatFound::Faulty(fault) => {
-            take_faulty(batching, *fault)?;
-            report_full(runner, batching)?;
-            Ok(from + line.count as usize)
-        }
-        _ => {
-            let Some(count) = take_next(batching, buffered.bytes, from, &mut room.raw)? else {
-                return Ok(from);
-            };
-            report_full(runner, batching)?;
-            Ok(from + count)
-        }
-    }
-}
-
-/// Prototype.
-pub(crate) fn report_flat<'a, T: Threads + Wait + Sync>(
-    runner: &Runner<T>,
-    batching: &mut Batching,
-    buffered: &Buffered<'a>,
-    flat: &Flat,
-    from: usize,
-    room: &mut Room<'a>,
-) -> Result<usize, EngineFault> {
-    let mut at = from;
-    let mut first = 0;
-    let mut first_op = 0;
-    'turns: for line in &flat.lines {
-        at = report_until(runner, batching, buffered, at, line.from as usize, &mut room.raw)?;
-        if at == line.from as usize {
-            at = flat_one(runner, batching, buffered, flat, line, first, first_op, room)?;
-        }
-        if let FlatFound::Run { accesses, ops, .. } = &line.found {
-            first = *accesses as usize;
-            first_op = *ops as usize;
-        }
     }
     match runner.plan.cut {
         Cut::WhenFull => {}

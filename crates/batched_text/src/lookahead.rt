@@ -13,7 +13,7 @@ use crate::stretches::{Extent, Ran, run_ahead};
 use bohm_base::EngineFault;
 use log_text::LineBuffers;
 use model_base::HashSeed;
-use read_ahead::Flat;
+use read_ahead::Piece;
 use sequencer::Catalog;
 use std::alloc::Global;
 use std::marker::Brand;
@@ -57,7 +57,7 @@ pub(crate) struct Lookahead {
     /// Bytes that the next stretch has at most.
     stretch: usize,
     /// Pieces that are of no more use, and are filled again.
-    spare: Vec<Flat>,
+    spare: Vec<Piece>,
 }
 
 impl Lookahead {

@@ -7,10 +7,10 @@ ghost use Rattle.batched_text.specs.Foretold.{IsReadyAt, Runs, log_names};
 
 use crate::batching::Batching;
 use crate::buffered::Buffered;
-use crate::foretold::{Room, report_flat, report_until};
+use crate::foretold::{Room, report_foretold, report_until};
 use crate::runner::Runner;
 use bohm_base::EngineFault;
-use read_ahead::{Basis, Flat, Stretch};
+use read_ahead::{Basis, Piece, Stretch};
 use sequencer::Catalog;
 use std::sync::Wait;
 use std::thread;
@@ -59,8 +59,10 @@ fn report_piece<'a, B: Basis, T: Threads + Wait + Sync>(
     let Some(read) = stretch.take(piece) else {
         return report_until(runner, batching, buffered, from, end, &mut room.raw);
     };
-    let at = report_flat(runner, batching, buffered, &read, from, room)?;
-    stretch.give_back(read);
+    let (lines, count) = read.into_lines();
+    let found = &lines[..count];
+    let at = report_foretold(runner, batching, buffered, found, from, room)?;
+    stretch.give_back(Piece::over(lines));
     report_until(runner, batching, buffered, at, end, &mut room.raw)
 }
 
@@ -166,8 +168,8 @@ pub(crate) fn run_ahead<B: Basis + Send + Sync, T: Threads + Wait + Sync>(
     names: &Catalog,
     buffered: &Buffered,
     extent: &Extent,
-    spare: Vec<Flat>,
-) -> (Ran, Vec<Flat>)
+    spare: Vec<Piece>,
+) -> (Ran, Vec<Piece>)
     requires within { extent.now.to ≤ length buffered.now.bytes.now }
     requires names { names.now ≡ B.names }
     requires bytes { buffered.now.bytes.now ≡ B.bytes }

@@ -19,7 +19,6 @@ ghost use Rattle.body.specs.Shown.{WindowShows, with_rows};
 
 mod ending;
 mod laws;
-mod ops;
 mod registers;
 mod row_map;
 mod row_store;
@@ -32,7 +31,6 @@ pub use laws::{
     leaves_others, leaves_unwritten, logs_have_shape, shows_rows,
 };
 use model_base::{Form, Statement};
-pub use ops::{Op, computing, op_of, run_ops};
 pub use row_map::RowMap;
 pub use row_store::{
     RowSource, RowStore, fill, put_rows, release_absent, release_rows, reserve_rows, run_on,

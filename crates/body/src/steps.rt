@@ -91,15 +91,6 @@ fn place_of(
     }
 }
 
-/// Unproved: the place of the access that declares this kind for this row.
-#[inline(always)]
-pub(crate) fn place_of_number(accesses: &[Access], kind: Kind, table: Table, number: u32) -> Option<usize> {
-    match position(accesses, table, i64::from(number)) {
-        Some(place) if accesses[place].kinds.contains(kind) => Some(place),
-        _ => None,
-    }
-}
-
 /// Whether the row is there.
 fn has(
     accesses: &[Access],
@@ -230,7 +221,7 @@ fn delete(
 }
 
 /// Does one step.
-pub(crate) fn perform(
+fn perform(
     accesses: &[Access],
     step: &Step,
     window: &mut Window,

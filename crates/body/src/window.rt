@@ -91,17 +91,6 @@ impl Window {
         self.outputs
     }
 
-    /// Unproved: the outputs, where they are.
-    pub fn output_slice(&self) -> &[i64] {
-        self.outputs.as_slice()
-    }
-
-    /// Unproved: as `clear_outputs`.
-    #[inline(always)]
-    pub fn drop_outputs(&mut self) {
-        self.outputs.clear();
-    }
-
     /// Forgets the outputs.
     pub fn clear_outputs(&mut self)
         ensures outputs { self.new.outputs ≡ [] }

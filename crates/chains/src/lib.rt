@@ -20,5 +20,5 @@ mod version;
 mod writes;
 
 pub use laws::{right_stores_stay_right, versions_have_the_cells, versions_of_logs_are_in_order};
-pub use store::{BadMark, Chains, Trimmed, Undo};
+pub use store::{BadMark, Chains, Trimmed};
 pub use version::Version;

@@ -9,7 +9,6 @@ use indexmap::IndexMap;
 use model_base::{HashSeed, Key, MOST_ACCESSES, Place, Row};
 use std::alloc::{AllocError, Global};
 use std::collections::VecDeque;
-use std::mem;
 use std::marker::Model;
 
 /// For each key that has versions the newest of them, and the others of all keys in the order in which they were replaced.
@@ -198,38 +197,6 @@ impl Rows {
             Some((index, _key, _newest)) => {
                 set_replaced(&self.older, place, key, access, index, window)
             }
-        }
-    }
-
-    /// Unproved: exchanges the replaced versions for others.
-    pub(crate) fn swap_older(&mut self, other: &mut VecDeque<Replaced>) {
-        mem::swap(&mut self.older, other);
-    }
-
-    /// Unproved: where the key is, and something of its row, so that the row comes near.
-    #[inline(always)]
-    pub(crate) fn seek(&self, key: &Key, touched: &mut u64) -> usize {
-        match self.newest.get_full(key) {
-            None => usize::MAX,
-            Some((index, _key, newest)) => {
-                let column = match &newest.row {
-                    None => 0,
-                    Some(row) => row.column(3),
-                };
-                *touched = (*touched ^ newest.place) ^ (column as u64 & 1);
-                index
-            }
-        }
-    }
-
-    /// Unproved: as `find`, at this index first.
-    #[inline(always)]
-    pub(crate) fn find_at(&self, place: Place, key: Key, index: usize, access: usize, window: &mut Window) {
-        match self.newest.get_index(index) {
-            Some((other, newest)) if *other == key && newest.place < place => {
-                window.set_found(access, &newest.row, index)
-            }
-            _ => self.find(place, key, access, window),
         }
     }
 

@@ -1,6 +1,5 @@
 //! The store of the versions of rows.
 
-use crate::replaced::Replaced;
 use crate::rows::Rows;
 use crate::version::Version;
 use crate::writes::{Written, cut_writes, note_absent, note_if_absent};
@@ -10,18 +9,6 @@ use std::alloc::{AllocError, Global};
 use std::collections::VecDeque;
 use std::marker::Model;
 use thiserror::Error;
-
-/// Unproved: versions that were replaced, of one hand.
-#[derive(Drop)]
-pub struct Undo {
-    older: VecDeque<Replaced>,
-}
-
-impl Undo {
-    pub fn new(alloc: Global) -> Self {
-        Undo { older: VecDeque::new(alloc) }
-    }
-}
 
 /// The row before a place was asked for that lies below the mark, where the versions that would give it may be gone.
 #[derive(Clone, Copy, PartialEq, Eq, Debug, Error)]
@@ -185,32 +172,7 @@ impl Chains {
         ensures shows { WindowShows (accesses_of statement.now.form) window.new (rows_at_end self.now) }
         ensures fresh { window.new.outputs ≡ [] }
     {
-        self.fill_rows(statement.accesses(), window);
-    }
-
-    /// Unproved: exchanges the versions that were replaced for others.
-    pub fn swap_undo(&mut self, undo: &mut Undo) {
-        self.rows.swap_older(&mut undo.older);
-    }
-
-    /// Unproved: where a key is.
-    #[inline(always)]
-    pub fn seek(&self, key: &Key, touched: &mut u64) -> usize {
-        self.rows.seek(key, touched)
-    }
-
-    /// Unproved: as `fill_rows`, at these indexes first.
-    #[inline(always)]
-    pub fn fill_found(&self, accesses: &[Access], found: &[usize], window: &mut Window) {
-        window.drop_outputs();
-        for (index, access) in accesses.iter().enumerate() {
-            self.rows.find_at(self.end, access.key, found[index], index, window);
-        }
-    }
-
-    /// Fills a window for these accesses, as `fill_window`.
-    #[inline(always)]
-    pub fn fill_rows(&self, accesses: &[Access], window: &mut Window) {
+        let accesses = statement.accesses();
         window.clear_outputs();
         for (index, access) in accesses.iter().enumerate() {
             self.rows.find(self.end, access.key, index, window);

@@ -9,9 +9,9 @@ ghost use Rattle.checker.specs.Admission.{admission, told_if};
 ghost use Rattle.checker.specs.Missing.{Covers, first_lacking};
 ghost use Rattle.checker.specs.declared.admission.Admission.TheVariants.{Admitted};
 
-use crate::missing::{first_lack, first_lack_of};
+use crate::missing::first_lack;
 use grants::{Records, shown_views_tell_causes};
-use model_base::{Access, Cause, Need, Needs, Statement, User};
+use model_base::{Cause, Need, Statement};
 
 /// Whether a statement may run.
 #[derive(Clone, Copy)]
@@ -43,17 +43,6 @@ pub fn admit<V: Records>(statement: &Statement, view: &mut V) -> Admission
     // The cause of what a view doesn't say as held.
     shown_views_tell_causes();
     match first_lack(view, statement.user, &statement.form) {
-        Some(lack) => Admission::Denied {
-            need: lack.need,
-            cause: lack.cause,
-        },
-        None => Admission::Admitted,
-    }
-}
-
-/// Unproved: whether a user holds the needs of some accesses, as `admit`.
-pub fn admit_accesses<V: Records>(user: User, accesses: &[Access], view: &mut V) -> Admission {
-    match first_lack_of(view, user, Needs::of_accesses(accesses)) {
         Some(lack) => Admission::Denied {
             need: lack.need,
             cause: lack.cause,

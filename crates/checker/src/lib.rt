@@ -8,4 +8,4 @@
 mod admission;
 mod missing;
 
-pub use admission::{Admission, admit, admit_accesses};
+pub use admission::{Admission, admit};

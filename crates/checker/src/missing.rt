@@ -32,12 +32,7 @@ pub(crate) fn first_lack<V: Records>(view: &mut V, user: User, form: &Form) -> O
     ensures lack { result ≡ first_lack (V.shown view.old) user (needs form.now) }
     ensures same { V.shown view.new ≡ V.shown view.old }
 {
-    first_lack_of(view, user, Needs::of(form))
-}
-
-/// The first of these needs that the user doesn't hold.
-pub(crate) fn first_lack_of<V: Records>(view: &mut V, user: User, needs: Needs<'_>) -> Option<Lack> {
-    let mut needs = needs;
+    let mut needs = Needs::of(form);
     'needs: while let Some(need) = needs.next() {
         let lack = lack_of(view, user, need);
         if lack.is_some() {

@@ -108,7 +108,7 @@ impl HeldNeeds {
     }
 
     /// Whether each need of the accesses is remembered.
-    pub(crate) fn has_each(&self, user: User, accesses: &[Access]) -> bool
+    fn has_each(&self, user: User, accesses: &[Access]) -> bool
         ensures { result ≡ true → (book : Entries) → AreHeld book self.now → HasAll book user (flat_map needs_of_access accesses.now) }
     {
         for access in accesses {
@@ -166,7 +166,7 @@ impl HeldNeeds {
     }
 
     /// Remembers that the needs of the accesses are held.
-    pub(crate) fn remember_each(&mut self, user: User, accesses: &[Access])
+    fn remember_each(&mut self, user: User, accesses: &[Access])
         ensures { (book : Entries) → AreHeld book self.old → HasAll book user (flat_map needs_of_access accesses.now)
             → AreHeld book self.new }
     {

@@ -20,10 +20,10 @@ ghost use Rattle.engine.specs.Running.{AddsFrom, HasRun, IsKeptPlace, IsNextPlac
 use crate::booking::{create, creates, make_deeds};
 use crate::remembering::RememberingBook;
 use crate::state::RunState;
-use body::{BodyEnd, Op, Window, run, run_ops, shows_rows};
+use body::{BodyEnd, Window, run, shows_rows};
 use chains::Chains;
 use checker::Admission;
-use model_base::{Access, Cause, MOST_ACCESSES, Need, Outcome, Place, Reason, Statement, User};
+use model_base::{MOST_ACCESSES, Outcome, Place, Statement};
 use sequencer::LogTail;
 use std::alloc::{AllocError, Global};
 use std::ops::Range;
@@ -209,48 +209,4 @@ pub fn run_in_order<G: Gate>(
         gate.after(place);
     }
     Ok(())
-}
-
-/// Unproved: a RUN without a deed, as it was read ahead.
-#[derive(Clone, Copy)]
-pub struct FlatRun<'a> {
-    pub user: User,
-    pub accesses: &'a [Access],
-    pub ops: &'a [Op],
-}
-
-/// What such a RUN results in; its outputs are in the window.
-#[derive(Clone, Copy)]
-pub enum FlatEnd {
-    Done,
-    Denied { need: Need, cause: Cause },
-    Aborted { step: u64, reason: Reason },
-    Undeclared { step: u64 },
-}
-
-/// Unproved: as `run_place`.
-#[inline(always)]
-pub(crate) fn run_flat(
-    state: &mut RunState,
-    window: &mut Window,
-    place: Place,
-    run: &FlatRun<'_>,
-) -> Result<FlatEnd, AllocError> {
-    let end = match state.book.admit_accesses(run.user, run.accesses, place) {
-        Admission::Denied { need, cause } => FlatEnd::Denied { need, cause },
-        Admission::Admitted => {
-            state.chains.fill_rows(run.accesses, window);
-            match run_ops(run.accesses, run.ops, window) {
-                BodyEnd::Completed => FlatEnd::Done,
-                BodyEnd::Aborted { step, reason } => FlatEnd::Aborted { step, reason },
-                BodyEnd::Undeclared { step } => FlatEnd::Undeclared { step },
-            }
-        }
-    };
-    match end {
-        FlatEnd::Done => {}
-        _ => state.chains.fill_rows(run.accesses, window),
-    }
-    state.chains.put_place(run.accesses, window)?;
-    Ok(end)
 }

@@ -23,13 +23,11 @@ mod run;
 mod slots;
 mod state;
 
-pub use body::Window;
-pub use chains::Undo;
 pub use changes::BookChanges;
 pub use commit::advance;
 pub use crew::Crew;
 pub use executing::execute;
-pub use in_order::{FlatEnd, FlatRun, run_in_order};
+pub use in_order::run_in_order;
 pub use line_io::EngineFault;
 pub use remembering::RememberingBook;
 pub use run::Engine;

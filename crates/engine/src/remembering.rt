@@ -12,11 +12,11 @@ ghost use Rattle.checker.specs.Admission.{admission};
 ghost use Rattle.checker.specs.Missing.{Covers};
 
 use crate::held::HeldNeeds;
-use checker::{Admission, admit, admit_accesses};
+use checker::{Admission, admit};
 use grants::Book;
 use grants_base::{Creation, End};
 use model_base::{
-    Access, Grant, HashSeed, MOST_NAMES, Place, RecordName, Revocation, Statement, Table, User,
+    Grant, HashSeed, MOST_NAMES, Place, RecordName, Revocation, Statement, Table, User,
 };
 use std::alloc::{AllocError, Global};
 use std::marker::Model;
@@ -85,19 +85,6 @@ impl RememberingBook {
         let admission = admit(statement, &mut self.book.at(place));
         if let Admission::Admitted = admission {
             self.held.remember(statement);
-        }
-        admission
-    }
-
-    /// Unproved: as `admit`, of a RUN without a deed.
-    #[inline(always)]
-    pub(crate) fn admit_accesses(&mut self, user: User, accesses: &[Access], place: Place) -> Admission {
-        if self.held.has_each(user, accesses) {
-            return Admission::Admitted;
-        }
-        let admission = admit_accesses(user, accesses, &mut self.book.at(place));
-        if let Admission::Admitted = admission {
-            self.held.remember_each(user, accesses);
         }
         admission
     }

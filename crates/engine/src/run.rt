@@ -9,7 +9,7 @@ use crate::commit::advance;
 use crate::crew::Crew;
 use crate::executing::execute;
 use crate::grantees::recorded_grantees;
-use crate::in_order::{FlatEnd, FlatRun, run_flat, run_in_order, run_next};
+use crate::in_order::{run_in_order, run_next};
 use crate::remembering::RememberingBook;
 use crate::state::RunState;
 use body::Window;
@@ -20,7 +20,7 @@ use line_io::EngineFault;
 use log_batch::{BatchRange, LogBatch, StateBefore};
 use log_text::{LineBuffers, RawStatement, Version};
 use model_base::{
-    Access, Grantee, HashSeed, Key, MOST_BATCH_STATEMENTS, MOST_PARTITIONS, MOST_PLACES, MOST_WORKERS,
+    Grantee, HashSeed, Key, MOST_BATCH_STATEMENTS, MOST_PARTITIONS, MOST_PLACES, MOST_WORKERS,
     Outcome, Place, RecordName, Row, Statement, records_name_grantees,
 };
 use sequencer::{LogTail, Past, Refused, forget_first};
@@ -330,13 +330,6 @@ impl Engine {
             &mut self.outcomes,
         )?;
         Ok(())
-    }
-
-    /// Unproved: the same for a RUN without a deed.
-    #[inline(always)]
-    pub fn run_flat(&mut self, run: &FlatRun<'_>, window: &mut Window) -> Result<FlatEnd, AllocError> {
-        let place = self.log.pass_flat();
-        run_flat(&mut self.state, window, place, run)
     }
 
     /// Takes a statement that was foretold as the next place and runs it, from where it stays: neither it nor its outcome is kept. Nothing

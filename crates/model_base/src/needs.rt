@@ -141,11 +141,6 @@ impl<'a> Needs<'a> {
         }
     }
 
-    /// Unproved: the needs of some accesses.
-    pub fn of_accesses(accesses: &'a [Access]) -> Self {
-        Needs::after(accesses, OptionNeeds::none())
-    }
-
     /// All needs of a statement.
     pub fn of(form: &'a Form) -> Self
         ensures { result ≡ needs form.now }

@@ -53,15 +53,6 @@ impl Values {
         }
     }
 
-    /// Unproved: leaves no number.
-    #[inline(always)]
-    pub fn clear(&mut self) {
-        for index in 0..self.len as usize {
-            self.values[index] = 0;
-        }
-        self.len = 0;
-    }
-
     /// How many there are.
     pub fn len(&self) -> usize
         ensures { result ≡ length self.now }

@@ -10,14 +10,12 @@
 
 mod ahead;
 mod cutting;
-mod flat;
 mod piece;
 mod reading;
 mod stretch;
 
 pub use ahead::{Ahead, Found};
 pub use cutting::piece_cuts;
-pub use flat::{Flat, FlatFound, FlatLine};
 pub use piece::Piece;
 pub use reading::{MOST_LINES_AHEAD, foretell_lines};
 pub use stretch::{Basis, Stretch};

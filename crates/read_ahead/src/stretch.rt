@@ -6,8 +6,8 @@ ghost use Rattle.read_ahead.specs.Ahead.{IsAhead};
 
 use crate::ahead::Ahead;
 use crate::cutting::piece_cuts;
-use crate::flat::Flat;
-use log_text::LineBuffers;
+use crate::piece::Piece;
+use crate::reading::foretell_lines;
 use sequencer::Catalog;
 use std::alloc::{AllocError, Global};
 use std::hint;
@@ -38,13 +38,15 @@ impl Basis for Brand {
 /// A piece whose lines are of these bytes, and were read by these names.
 #[derive(Drop)]
 struct ReadPiece<B: Basis> {
-    piece: Flat,
+    piece: Piece,
     of: PhantomData<B>,
+    ghost ahead: { All (IsAhead B.names B.bytes) piece },
 }
 
 impl<B: Basis> ReadPiece<B> {
     /// The piece with what is known of it.
-    fn new(piece: Flat) -> Self
+    fn new(piece: Piece) -> Self
+        requires { All (IsAhead B.names B.bytes) piece }
     {
         ReadPiece {
             piece,
@@ -64,7 +66,7 @@ struct Place<B: Basis> {
 /// Pieces that were run, and are filled again.
 #[derive(Drop)]
 struct SparePieces {
-    pieces: Vec<Flat>,
+    pieces: Vec<Piece>,
     /// How many of them are kept at most.
     most: usize,
     ghost few: { vec_len pieces ≤ most },
@@ -72,7 +74,7 @@ struct SparePieces {
 
 impl SparePieces {
     /// These pieces, with up to this many.
-    fn new(pieces: Vec<Flat>, most: usize) -> Self
+    fn new(pieces: Vec<Piece>, most: usize) -> Self
         ensures { result.most ≡ max most (vec_len pieces) }
     {
         SparePieces {
@@ -82,7 +84,7 @@ impl SparePieces {
     }
 
     /// Keeps a piece, unless as many are kept as there may be.
-    fn keep(&mut self, piece: Flat)
+    fn keep(&mut self, piece: Piece)
         ensures { self.new.most ≡ self.old.most }
     {
         if self.pieces.len() < self.most {
@@ -91,13 +93,13 @@ impl SparePieces {
     }
 
     /// The piece that was kept last, if there is one.
-    fn take(&mut self) -> Option<Flat>
+    fn take(&mut self) -> Option<Piece>
         ensures { self.new.most ≡ self.old.most }
     {
         self.pieces.pop()
     }
 
-    fn into_pieces(self) -> Vec<Flat> {
+    fn into_pieces(self) -> Vec<Piece> {
         let SparePieces { pieces, .. } = self;
         pieces
     }
@@ -139,7 +141,7 @@ impl<B: Basis> Stretch<B> {
         bytes: &[u8],
         to: usize,
         count: usize,
-        spare: Vec<Flat>,
+        spare: Vec<Piece>,
     ) -> Result<Self, AllocError>
         requires within { to ≤ length bytes.now }
         requires bytes { bytes.now ≡ B.bytes }
@@ -180,7 +182,8 @@ impl<B: Basis> Stretch<B> {
     }
 
     /// Takes a piece, if it was read by now: what was found of its lines.
-    pub fn take(&self, piece: usize) -> Option<Flat>
+    pub fn take(&self, piece: usize) -> Option<Piece>
+        ensures { IfSome result (λ lines. All (IsAhead B.names B.bytes) lines) }
     {
         let mut place = self.pieces.get(piece)?.read.try_lock()?;
         let read = place.take()?;
@@ -189,24 +192,25 @@ impl<B: Basis> Stretch<B> {
 
     /// Gives a piece back that was run, which is filled again unless as many wait for that as a stretch has: a thread that finds the lock
     /// taken makes a new one, so that they would grow in number with the log.
-    pub fn give_back(&self, piece: Flat) {
+    pub fn give_back(&self, piece: Piece) {
         if let Some(mut spare) = self.spare.try_lock() {
             spare.keep(piece);
         }
     }
 
     /// The piece that is filled next: one that was run, or a new one.
-    fn empty_piece(&self) -> Flat {
+    fn empty_piece(&self) -> Piece {
         if let Some(mut spare) = self.spare.try_lock() {
             if let Some(piece) = spare.take() {
                 return piece;
             }
         }
-        Flat::new(self.alloc)
+        Piece::new(self.alloc)
     }
 
     /// Keeps a piece that was read until it is run.
-    fn keep(&self, piece: usize, read: Flat)
+    fn keep(&self, piece: usize, read: Piece)
+        requires { All (IsAhead B.names B.bytes) read }
     {
         if let Some(place) = self.pieces.get(piece) {
             if let Some(mut kept) = place.read.try_lock() {
@@ -240,9 +244,7 @@ impl<B: Basis> Stretch<B> {
         }
         if piece >= self.passed.load(SeqCst) {
             let (from, to) = (self.cut(piece), self.end_of(piece));
-            let mut read = self.empty_piece();
-            read.clear();
-            read.read_some(names, &bytes[..to], from, usize::MAX, &mut LineBuffers::new(self.alloc));
+            let read = foretell_lines(self.alloc, names, bytes, from, to, self.empty_piece());
             self.keep(piece, read);
         }
         true
@@ -284,7 +286,7 @@ impl<B: Basis> Stretch<B> {
     }
 
     /// The pieces that were run, whose lists may be filled again.
-    pub fn into_spare(self) -> Vec<Flat> {
+    pub fn into_spare(self) -> Vec<Piece> {
         let Stretch { spare, .. } = self;
         spare.into_inner().into_pieces()
     }

@@ -333,44 +333,6 @@ pub fn put_outcome(
     text.extend_from_slice(b"\n")
 }
 
-/// Unproved: the report's line of a RUN that is done, and makes no deed.
-#[inline(always)]
-pub fn put_outputs(text: &mut Vec<u8>, place: Place, outputs: &[i64]) -> Result<(), AllocError> {
-    put_decimal(text, place)?;
-    text.extend_from_slice(b" done")?;
-    put_numbers(text, outputs)?;
-    text.extend_from_slice(b"\n")
-}
-
-/// Unproved: writes the report's line for a place of which it is known whether its statement is a deed by itself.
-#[inline(always)]
-pub fn put_told(
-    text: &mut Vec<u8>,
-    catalog: &Catalog,
-    place: Place,
-    is_deed: bool,
-    outcome: &Outcome,
-) -> Result<(), AllocError> {
-    put_decimal(text, place)?;
-    match outcome {
-        Outcome::Created => text.extend_from_slice(b" created")?,
-        Outcome::Done { outputs, deed } => {
-            if !is_deed {
-                text.extend_from_slice(b" done")?;
-                put_numbers(text, outputs.as_slice())?;
-            }
-            put_deed(text, catalog, deed, &[])?;
-        }
-        Outcome::Denied { need, cause } => put_denied(text, catalog.tables(), need, *cause)?,
-        Outcome::Aborted { step, reason } => put_aborted(text, *step, *reason)?,
-        Outcome::Undeclared { step } => {
-            text.extend_from_slice(b" undeclared ")?;
-            put_decimal(text, *step)?;
-        }
-    }
-    text.extend_from_slice(b"\n")
-}
-
 /// Writes the report's line for a line that isn't accepted.
 fn put_word(text: &mut Vec<u8>, number: u64, word: &str) -> Result<(), AllocError>
     ensures ok { OnOk result (text.new.items ≡ text.old.items ++ refused_text number word.now) }

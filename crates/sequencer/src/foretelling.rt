@@ -12,13 +12,12 @@ ghost use Rattle.std.specs.Option.{option_map};
 
 use crate::catalog::Catalog;
 use crate::names::{RECENT_NUMBERS, recent_place};
-use body::Op;
 use crate::numbering::deed_form;
 use crate::raw_run::RawRun;
 use crate::statement_buffers::StatementBuffers;
 use crate::testing::names_in;
 use log_text::{LineBuffers, Name, RawDeed, RawForm, RawGrantee, RawGrantees, RawStatement};
-use model_base::{Access, Step, DeedForm, Form, Grantee, Grantees, MOST_PLACES, Statement, Table, User};
+use model_base::{DeedForm, Form, Grantee, Grantees, MOST_PLACES, Statement, Table, User};
 use std::alloc::AllocError;
 use std::mem;
 
@@ -140,41 +139,6 @@ impl Catalog {
                 deed,
             },
         })
-    }
-
-    /// Unproved: a RUN, its accesses and steps put behind others, and its deed.
-    pub fn foretell_parts(
-        &self,
-        recent: &mut Recent,
-        read: &LineBuffers<'_>,
-        accesses: &mut Vec<Access>,
-        steps: &mut Vec<Step>,
-        ops: &mut Vec<Op>,
-    ) -> Option<(User, Option<DeedForm>)> {
-        let before = accesses.len();
-        let user = self.foretold_user(recent, &read.user)?;
-        let found = &read.accesses;
-        if accesses.reserve(found.len()).is_err() || ops.reserve(read.steps.len()).is_err() {
-            return None;
-        }
-        for (index, access) in found.iter().enumerate() {
-            match self.numbered_access(&mut recent.table, &found[..index], access) {
-                Ok(access) => accesses.push_reserved(access),
-                Err(_) => return None,
-            }
-        }
-        let mut later = read.steps.len();
-        for step in read.steps.iter() {
-            later -= 1;
-            if self
-                .push_op(&mut recent.table, later, &accesses[before..], step, steps, ops)
-                .is_err()
-            {
-                return None;
-            }
-        }
-        let deed = self.foretold_last_deed(recent, &read.deed)?;
-        Some((user, deed))
     }
 
     /// A deed by itself, as `foretell`.

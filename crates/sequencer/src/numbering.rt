@@ -9,7 +9,6 @@ ghost use Rattle.sequencer.specs.Refusal.{IsAnswerOf, access_refusal, accesses_r
 use crate::catalog::Catalog;
 use crate::refused::Refused;
 use crate::testing::{is_repeated, test_skip};
-use body::{Op, computing, op_of};
 use log_text::{Name, RawAccess, RawDeed, RawStep};
 use model_base::{
     Access, DeedForm, Grantees, Items, Key, Register, Registers, RowName, Step, Table,
@@ -201,7 +200,7 @@ impl Catalog {
     /// Appends the step with its table by number, where this many steps come later. It has to fit the table, and to pass over no more steps
     /// than there are.
     #[inline(always)]
-    pub(crate) fn push_step(
+    fn push_step(
         &self,
         recent: &mut Table,
         later: usize,
@@ -247,42 +246,6 @@ impl Catalog {
             RawStep::Check { of } => found.push_reserved(Step::Check { of: *of }),
             RawStep::Skip { of, steps } => found.push_reserved(skip_step(*of, *steps, later)?),
             RawStep::Out { of } => found.push_reserved(Step::Out { of: *of }),
-        }
-        Ok(())
-    }
-
-    /// Unproved: appends a step as it is run, with its table by number.
-    #[inline(always)]
-    pub(crate) fn push_op(
-        &self,
-        recent: &mut Table,
-        later: usize,
-        accesses: &[Access],
-        step: &RawStep<'_>,
-        scratch: &mut Vec<Step>,
-        ops: &mut Vec<Op>,
-    ) -> Result<(), Refused> {
-        match step {
-            RawStep::Const { to, value } => ops.push_reserved(Op::Const {
-                to: *to,
-                value: *value,
-            }),
-            RawStep::Compute {
-                operation,
-                to,
-                left,
-                right,
-            } => ops.push_reserved(computing(*operation, *to, *left, *right)),
-            RawStep::Check { of } => ops.push_reserved(Op::Check { of: *of }),
-            RawStep::Out { of } => ops.push_reserved(Op::Out { of: *of }),
-            _ => {
-                scratch.clear();
-                if scratch.reserve(1).is_err() {
-                    return Err(Refused::NoMemory);
-                }
-                self.push_step(recent, later, step, scratch)?;
-                ops.push_reserved(op_of(accesses, &scratch[0]));
-            }
         }
         Ok(())
     }

@@ -119,14 +119,6 @@ impl LogTail {
         self.catalog.set_version(version);
     }
 
-    /// Unproved.
-    #[inline(always)]
-    pub fn pass_flat(&mut self) -> Place {
-        let place = self.catalog.places();
-        self.catalog.take_foretold();
-        place
-    }
-
     /// Takes a statement as the next place. The first test that it doesn't pass refuses it. Its accesses and steps take the memory of a
     /// dropped statement where that is enough.
     #[inline(always)]
