@@ -15,7 +15,7 @@ use Rattle.report.proofs.ReportLemmas.{log_of-append, names_after-append, versio
 use Rattle.batched_text.proofs.LaterNames.{begins_after, version-later}
 use Rattle.batched_text.specs.Reaching.{IsLogOfFront, IsLogUpTo}
 use Rattle.audit_text.specs.Answer.{Answers, AnswersAccepted, HasNoPlace, IsExplanation}
-use Rattle.audit_text.specs.declared.fault.AuditFault.{AuditFault}
+use Rattle.audit_text.specs.declared.fault.WorkFault.{WorkFault}
 use Rattle.audit_text.specs.declared.question.Question.{Question}
 use Rattle.audit_text.proofs.Longer.{answers-longer, explained-within}
 
@@ -75,7 +75,7 @@ explains input log question text whole so answers =
       ),
     )
 
-pub explained : (result : Result (Unit {0}) AuditFault) (i old new : Option (List ℕ)) (log : Accepted) (question : Question) → IsWhole log
+pub explained : (result : Result (Unit {0}) WorkFault) (i old new : Option (List ℕ)) (log : Accepted) (question : Question) → IsWhole log
     → IsLogUpTo i (Some question.place) log
     → OnOk result ((text : List ℕ) × (AnswersAccepted log question text × Appends old new text))
     → OnOk result (IfSome i (λ input. (text : List ℕ) × (IsExplanation input question text × Appends old new text)))

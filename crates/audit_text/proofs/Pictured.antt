@@ -7,10 +7,10 @@ use Rattle.model_base.specs.declared.statement.Statement.{Statement}
 use Rattle.sequencer.specs.Log.{Accepted}
 use Rattle.batched_text.specs.Reaching.{IsLogOfFront, IsLogUpTo}
 use Rattle.audit_text.specs.Picture.{EndsBefore, IsPicture, IsPictureOf, place_before}
-use Rattle.audit_text.specs.declared.fault.AuditFault.{AuditFault}
+use Rattle.audit_text.specs.declared.fault.WorkFault.{WorkFault}
 use Rattle.audit_text.proofs.Explained.{all-read}
 
-pub pictured : (result : Result (Unit {0}) AuditFault) (i old new : Option (List ℕ)) (log : Accepted) (limit : Option ℕ) → IsLogUpTo i limit log
+pub pictured : (result : Result (Unit {0}) WorkFault) (i old new : Option (List ℕ)) (log : Accepted) (limit : Option ℕ) → IsLogUpTo i limit log
     → OnOk result ((text : List ℕ) × (IsPictureOf log limit text × Appends old new text))
     → OnOk result (IfSome i (λ input. (text : List ℕ) × (IsPicture input limit text × Appends old new text)))
 pictured (Ok x) None old new log limit so picture = tt

@@ -1,23 +1,20 @@
-//! Why a question has no answer.
+//! Why work on a log failed.
 
 ghost use Rattle.std.specs.Prelude.{◌≡◌};
-ghost use Rattle.audit_text.specs.Faults.{audit_fault_of, audit_fault_text, extent_text, range_text};
-ghost use Rattle.audit_text.specs.declared.fault.AuditFault.TheVariants.{NoMemory, Write};
+ghost use Rattle.line_io.specs.declared.fault.EngineFault.{EngineFault};
+ghost use Rattle.audit_text.specs.Faults.{extent_text, range_text, work_fault_text};
+ghost use Rattle.audit_text.specs.declared.fault.WorkFault.{WorkFault};
 
-use line_io::{ReadFault, WriteFault};
+use line_io::{EngineFault, WriteFault};
 use std::alloc::AllocError;
 use std::fmt;
 use thiserror::Error;
 
-/// Why a question has no answer.
+/// Why work on a log failed.
 #[derive(Clone, Copy, Debug, PartialEq, Eq, Error)]
-pub enum AuditFault {
-    /// A growth was refused.
-    NoMemory,
-    /// The reader failed.
-    Read,
-    /// The writer failed, or took no byte of a piece that wasn't empty.
-    Write,
+pub enum WorkFault {
+    /// Running the log, or writing what is said of it, failed.
+    Run(EngineFault),
     /// The log has no such place, but has this many.
     NoSuchPlace(u64),
 }
@@ -55,17 +52,15 @@ impl fmt::Display for Extent {
     }
 }
 
-impl fmt::Display for AuditFault {
+impl fmt::Display for WorkFault {
     ghost use Rattle.std.specs.Prelude.{Some};
 
-    ghost output = { λ fault. Some (audit_fault_text fault) };
+    ghost output = { λ fault. Some (work_fault_text fault) };
 
     fn fmt<W: fmt::Write>(&self, f: &mut fmt::Formatter<W>) -> fmt::Result {
         match self {
-            AuditFault::NoMemory => f.write_str("out of memory"),
-            AuditFault::Read => f.write_str("cannot read"),
-            AuditFault::Write => f.write_str("cannot write"),
-            AuditFault::NoSuchPlace(places) => {
+            WorkFault::Run(fault) => write!(f, "{fault}"),
+            WorkFault::NoSuchPlace(places) => {
                 let extent = Extent(*places);
                 write!(f, "no such place: the log has {extent}")
             }
@@ -73,29 +68,26 @@ impl fmt::Display for AuditFault {
     }
 }
 
-impl From<AllocError> for AuditFault {
-    ghost from_gives = { λ _ e. e ≡ NoMemory };
+impl From<AllocError> for WorkFault {
+    ghost from_gives = { λ _ e. e ≡ WorkFault.Run EngineFault.NoMemory };
 
-    fn from(_e: AllocError) -> AuditFault {
-        AuditFault::NoMemory
+    fn from(_e: AllocError) -> WorkFault {
+        WorkFault::Run(EngineFault::NoMemory)
     }
 }
 
-impl From<ReadFault> for AuditFault {
-    ghost from_gives = { λ fault e. e ≡ audit_fault_of fault };
+impl From<EngineFault> for WorkFault {
+    ghost from_gives = { λ fault e. e ≡ WorkFault.Run fault };
 
-    fn from(fault: ReadFault) -> AuditFault {
-        match fault {
-            ReadFault::NoMemory => AuditFault::NoMemory,
-            ReadFault::Read => AuditFault::Read,
-        }
+    fn from(fault: EngineFault) -> WorkFault {
+        WorkFault::Run(fault)
     }
 }
 
-impl From<WriteFault> for AuditFault {
-    ghost from_gives = { λ _ e. e ≡ Write };
+impl From<WriteFault> for WorkFault {
+    ghost from_gives = { λ _ e. e ≡ WorkFault.Run EngineFault.Write };
 
-    fn from(_fault: WriteFault) -> AuditFault {
-        AuditFault::Write
+    fn from(_fault: WriteFault) -> WorkFault {
+        WorkFault::Run(EngineFault::Write)
     }
 }

@@ -21,7 +21,7 @@ mod writing;
 
 pub use explaining::explain_text;
 pub use explanation::put_explanation;
-pub use fault::AuditFault;
+pub use fault::WorkFault;
 pub use graph::put_graph;
 pub use graph_laws::edges_are_grants_in_force;
 pub use picturing::grants_text;

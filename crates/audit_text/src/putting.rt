@@ -1,6 +1,7 @@
 //! The answer to a question about a place of a log that is run.
 
 ghost use Rattle.std.specs.Prelude.{◌≡◌, ◌<◌, ◌≤◌, ◌++◌, ◌⊎◌, [], ℕ, Decides, Err, IfErr, IfOk, OnOk, Some, codes, length, true};
+ghost use Rattle.line_io.specs.declared.fault.EngineFault.{EngineFault};
 ghost use Rattle.engine.specs.Engine.{finished};
 ghost use Rattle.report.specs.Report.{place_text};
 ghost use Rattle.explain.specs.Explained.{IsExplainedBy, LinesAreNamed, explained};
@@ -8,7 +9,7 @@ ghost use Rattle.audit_text.specs.Explanation.{LinesMayBeSpelled, explanation_te
 ghost use Rattle.audit_text.specs.Answer.{AnswersAccepted};
 
 use crate::explanation::put_explanation;
-use crate::fault::AuditFault;
+use crate::fault::WorkFault;
 use crate::question::Question;
 use batched_text::put_place;
 use engine::Engine;
@@ -106,17 +107,17 @@ pub(crate) fn put_answer(
     text: &mut Vec<u8>,
     engine: &Engine,
     question: Question,
-) -> Result<(), AuditFault>
+) -> Result<(), WorkFault>
     requires kept { engine.now.dropped ≤ question.place }
     requires all { finished engine.now ≡ length engine.now.log.statements }
     requires empty { text.old.items ≡ [] }
     ensures answer { OnOk result (AnswersAccepted engine.now.log question text.new.items) }
-    ensures none { (places : ℕ) → result ≡ Err (AuditFault.NoSuchPlace places)
+    ensures none { (places : ℕ) → result ≡ Err (WorkFault.NoSuchPlace places)
         → (places ≡ length engine.now.log.statements) × (places ≤ question.place) }
-    ensures err { IfErr result (λ f. (f ≡ AuditFault.NoMemory) ⊎ ((places : ℕ) × (f ≡ AuditFault.NoSuchPlace places))) }
+    ensures err { IfErr result (λ f. (f ≡ WorkFault.Run EngineFault.NoMemory) ⊎ ((places : ℕ) × (f ≡ WorkFault.NoSuchPlace places))) }
 {
     if engine.log().len() <= question.place {
-        return Err(AuditFault::NoSuchPlace(engine.log().len()));
+        return Err(WorkFault::NoSuchPlace(engine.log().len()));
     }
     put_found(alloc, text, engine, question)?;
     Ok(())

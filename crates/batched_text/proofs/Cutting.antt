@@ -1,5 +1,5 @@
 -- The mark, batch after batch.
-use Rattle.std.proofs.Common.{◌≡◌, ◌<◌, ◌≤◌, ◌+◌, ◌-◌, ◌*◌, ◌&&◌, ◌++◌, ◌∷◌, [], ℕ, zero, suc, Bool, true, List, length, refl, ap, sym, ◌∙◌, subst, arith, inl, inr}
+use Rattle.std.proofs.Common.{◌≡◌, ◌<◌, ◌≤◌, ◌+◌, ◌-◌, ◌*◌, ◌^◌, ◌&&◌, ◌++◌, ◌∷◌, [], ℕ, zero, suc, Bool, true, List, length, refl, ap, sym, ◌∙◌, subst, arith, inl, inr}
 use Rattle.std.specs.Prelude.{◌==◌, min, nat_le, if◌then◌else◌}
 use Rattle.std.proofs.Math.Nat.{mul-sub}
 use Rattle.std.proofs.lemmas.Bool.{and_parts, cases_lt, le-ltb, leb-true, lt-ltb, ne_eqb}
@@ -7,19 +7,19 @@ use Rattle.std.proofs.lemmas.List.{append-nil, length-append}
 use Rattle.report.specs.Report.{ParsedLine, accepted}
 use Rattle.sequencer.specs.Log.{Accepted}
 use Rattle.sequencer.specs.Whole.{IsWhole}
-use Rattle.bohm_base.specs.Collecting.{line_outcome, with_reading}
+use Rattle.bohm_base.specs.Collecting.{line_outcome, places_in, with_reading}
 use Rattle.bohm_base.specs.declared.collecting.LineOutcome.{LineOutcome}
 use Rattle.engine.specs.Engine.{Run, finished}
-use Rattle.batched_text.specs.Batching.{Deals, IsCounted, IsFilling, IsFresh, IsOpen, ReportsAll, ReportsFirst, ReportsLines, Takes}
-use Rattle.batched_text.specs.History.{IsCutBy, IsTrimmedBy}
-use Rattle.batched_text.specs.Settings.{IsCut, IsCutEarly, IsTrimmed, are_within_limits, mark_behind}
+use Rattle.batched_text.specs.Batching.{Deals, HasRoomForLine, IsFilling, IsFresh, IsOpen, IsSteady, ReportsAll, ReportsFirst, ReportsLines, RunsBatch, Takes, next_line}
+use Rattle.batched_text.specs.History.{IsCutBy, IsRanTo, IsTrimmedBy}
+use Rattle.batched_text.specs.Settings.{IsCut, IsCutEarly, IsTrimmed, are_within_limits, in_order, mark_behind}
 use Rattle.batched_text.specs.Sweeping.{IsSwept}
-use Rattle.batched_text.specs.declared.batching.Batching.{Batching}
+use Rattle.batched_text.specs.declared.line_run.LineRun.{LineRun}
 use Rattle.batched_text.specs.declared.history.Cut.{Cut}
 use Rattle.batched_text.specs.declared.history.Plan.{Plan}
 use Rattle.batched_text.specs.declared.settings.Settings.{Settings}
-use Rattle.batched_text.proofs.Ended.{counted_more, counted_start, one_more}
-use Rattle.batched_text.proofs.Histories.{kept_first, kept_longer}
+use Rattle.batched_text.proofs.Ended.{counted_more, one_more}
+use Rattle.batched_text.proofs.Histories.{Between, kept_first, kept_longer, ran_all, ran_between, ran_longer}
 use Rattle.batched_text.proofs.Sweeping.{swept_first}
 
 -- the mark by the number of batches that are kept
@@ -102,9 +102,9 @@ mark_so_far Cut.WhenFull settings run is less =
 mark_so_far Cut.BeforeReads settings run is less =
     omega (arith, is.most, mark_order settings.keep settings.batch (finished run - 1) (finished run) (finished run) (length run.log.statements) (omega arith) less)
 
-pub waits_for : (plan : Plan) (batching : Batching) → IsFilling plan batching
-    → batching.engine.store.mark ≤ mark_behind plan.settings (finished batching.engine) (length batching.engine.log.statements)
-waits_for plan batching filling = mark_so_far plan.cut plan.settings batching.engine filling.cut (omega (arith, filling.counted))
+pub waits_for : (plan : Plan) (run : LineRun) → IsSteady plan run
+    → run.engine.store.mark ≤ mark_behind plan.settings (finished run.engine) (length run.engine.log.statements)
+waits_for plan run steady = mark_so_far plan.cut plan.settings run.engine steady.cut (ran_between plan.cut run steady.ran steady.counted).most
 
 -- after a batch that begins at one place and ends at another, full or not
 pub ends_early : (settings : Settings) (run : Run) (start end : ℕ) → finished run ≡ end → run.store.mark ≡ mark_behind settings start end
@@ -126,144 +126,177 @@ abbrev pub IsDue : Cut → Settings → Run → Type 0
 IsDue Cut.WhenFull settings run = finished run + settings.batch ≤ length run.log.statements
 IsDue Cut.BeforeReads settings run = Unit {0}
 
-pub due : (cut : Cut) (settings : Settings) (run : Run) (waiting : ℕ) → settings.batch ≤ waiting
-    → waiting + finished run ≡ length run.log.statements → IsDue cut settings run
-due Cut.BeforeReads settings run waiting full all = tt
-due Cut.WhenFull settings run waiting full all = omega (arith, full, all)
+pub due : (cut : Cut) (settings : Settings) (run : LineRun) (waiting : ℕ) → IsRanTo cut run.reported run.engine → settings.batch ≤ waiting
+    → waiting + run.reported ≡ length run.engine.log.statements → IsDue cut settings run.engine
+due Cut.BeforeReads settings run waiting ran full all = tt
+due Cut.WhenFull settings run waiting ran full all = omega (arith, ran, full, all)
 
-module _ (plan : Plan) (old new : Batching) (reported : ReportsAll plan old new) where
+module _ (settings : Settings) (old new : Run) (ran : RunsBatch settings old new) where
   abbrev count : ℕ
-  count = length old.engine.log.statements
+  count = length old.log.statements
 
-  counts : length new.engine.log.statements ≡ count
-  counts = ap (λ (log : Accepted). length log.statements) reported.log
-
-  marked : finished old.engine < count → new.engine.store.mark ≡ mark_behind plan.settings (finished old.engine) count
+  marked : finished old < count → new.store.mark ≡ mark_behind settings (finished old) count
   marked more =
-      reported.mark
-      ∙ ap (λ (b : Bool). if b then mark_behind plan.settings (finished old.engine) count else old.engine.store.mark) (lt-ltb (finished old.engine) count more)
+      ran.mark
+      ∙ ap (λ (b : Bool). if b then mark_behind settings (finished old) count else old.store.mark) (lt-ltb (finished old) count more)
 
-  unmarked : count ≤ finished old.engine → new.engine.store.mark ≡ old.engine.store.mark
+  unmarked : count ≤ finished old → new.store.mark ≡ old.store.mark
   unmarked none =
-      reported.mark
-      ∙ ap (λ (b : Bool). if b then mark_behind plan.settings (finished old.engine) count else old.engine.store.mark) (le-ltb (finished old.engine) count none)
+      ran.mark
+      ∙ ap (λ (b : Bool). if b then mark_behind settings (finished old) count else old.store.mark) (le-ltb (finished old) count none)
 
   -- the cut after one more batch, which may have ended early
-  early_more : count ≤ finished old.engine + plan.settings.batch → finished old.engine < count → IsCutEarly plan.settings new.engine
-  early_more most more = ends_early plan.settings new.engine (finished old.engine) count reported.all (marked more) most more
+  early_more : count ≤ finished old + settings.batch → finished old < count → IsCutEarly settings new
+  early_more most more = ends_early settings new (finished old) count ran.all (marked more) most more
 
-  early_none : IsCutEarly plan.settings old.engine → count ≡ finished old.engine → IsCutEarly plan.settings new.engine
+  early_none : IsCutEarly settings old → count ≡ finished old → IsCutEarly settings new
   early_none cut none =
-      let same : finished new.engine ≡ finished old.engine = reported.all ∙ none in
-      let mark : new.engine.store.mark ≡ old.engine.store.mark = unmarked (omega (arith, none)) in
-      let least = ap (λ (n : ℕ). mark_behind plan.settings (n - plan.settings.batch) n) same in
-      let last = ap (λ (n : ℕ). mark_behind plan.settings (n - 1) n) same in
+      let same : finished new ≡ finished old = ran.all ∙ none in
+      let mark : new.store.mark ≡ old.store.mark = unmarked (omega (arith, none)) in
+      let least = ap (λ (n : ℕ). mark_behind settings (n - settings.batch) n) same in
+      let last = ap (λ (n : ℕ). mark_behind settings (n - 1) n) same in
       record { least = omega (arith, least, mark, cut.least); most = omega (arith, last, mark, cut.most) }
 
-  cut_early : IsCutEarly plan.settings old.engine → finished old.engine ≤ count → count ≤ finished old.engine + plan.settings.batch
-      → IsCutEarly plan.settings new.engine
+  pub cut_early : IsCutEarly settings old → finished old ≤ count → count ≤ finished old + settings.batch → IsCutEarly settings new
   cut_early cut within most =
-      elim (cases_lt (finished old.engine) count) [
+      elim (cases_lt (finished old) count) [
         | inl more ↦ early_more most more
         | inr none ↦ early_none cut (omega (arith, none, within))
       ]
 
-  cut_next : (by : Cut) → IsCutBy by plan.settings old.engine → finished old.engine ≤ count → count ≤ finished old.engine + plan.settings.batch
-      → 0 < plan.settings.batch → IsDue by plan.settings old.engine → IsCutBy by plan.settings new.engine
+  cut_next : (by : Cut) → IsCutBy by settings old → finished old ≤ count → count ≤ finished old + settings.batch
+      → 0 < settings.batch → IsDue by settings old → IsCutBy by settings new
   cut_next Cut.WhenFull cut within most some full =
-      let whole : count ≡ finished old.engine + plan.settings.batch = omega (arith, most, full) in
+      let whole : count ≡ finished old + settings.batch = omega (arith, most, full) in
       record {
         batches = cut.batches + 1;
-        full = omega (arith, reported.all, whole, cut.full);
-        mark = marked (omega (arith, some, full)) ∙ ap (mark_behind plan.settings (finished old.engine)) whole
-            ∙ mark_full plan.settings.keep plan.settings.batch cut.batches (finished old.engine) cut.full;
+        full = omega (arith, ran.all, whole, cut.full);
+        mark = marked (omega (arith, some, full)) ∙ ap (mark_behind settings (finished old)) whole
+            ∙ mark_full settings.keep settings.batch cut.batches (finished old) cut.full;
       }
   cut_next Cut.BeforeReads cut within most some may = cut_early cut within most
 
-  -- the next batch, after one that is due
-  open_next : IsFilling plan old → IsDue plan.cut plan.settings old.engine → IsOpen plan new
-  open_next filling due =
-      let some : 0 < plan.settings.batch = (limits plan.settings filling.within).batch_some in
-      record {
-        filling = record {
-          within = filling.within;
-          whole = subst IsWhole (sym reported.log) filling.whole;
-          counted = subst (λ (ls : List LineOutcome). IsCounted new.engine ls) (sym reported.left) (omega (arith, counts, reported.all));
-          few = subst (λ (ls : List LineOutcome). length ls < new.number) (sym reported.left) (omega (arith, filling.few, reported.number));
-          kept = reported.kept;
-          cut = cut_next plan.cut filling.cut (omega (arith, filling.counted)) filling.most some due;
-          swept = reported.swept;
-          most = omega (arith, counts, reported.all);
-        };
-        less = omega (arith, counts, reported.all, some);
-      }
-
   -- what is left at the end
-  trimmed_last : IsCut plan.settings old.engine → count ≤ finished old.engine + plan.settings.batch → finished old.engine < count → IsTrimmed plan.settings new.engine
+  trimmed_last : IsCut settings old → count ≤ finished old + settings.batch → finished old < count → IsTrimmed settings new
   trimmed_last cut most more = record {
     batches = cut.batches + 1;
-    most = omega (arith, reported.all, most, cut.full);
-    least = omega (arith, reported.all, cut.full, more);
-    mark = marked more ∙ mark_last plan.settings.keep plan.settings.batch cut.batches (finished old.engine) count cut.full more most
-        ∙ ap (λ (n : ℕ). min n (plan.settings.batch * ((cut.batches + 1) - plan.settings.keep))) (sym reported.all);
+    most = omega (arith, ran.all, most, cut.full);
+    least = omega (arith, ran.all, cut.full, more);
+    mark = marked more ∙ mark_last settings.keep settings.batch cut.batches (finished old) count cut.full more most
+        ∙ ap (λ (n : ℕ). min n (settings.batch * ((cut.batches + 1) - settings.keep))) (sym ran.all);
   }
 
-  trimmed_none : IsCut plan.settings old.engine → 0 < plan.settings.batch → count ≡ finished old.engine → IsTrimmed plan.settings new.engine
+  trimmed_none : IsCut settings old → 0 < settings.batch → count ≡ finished old → IsTrimmed settings new
   trimmed_none cut some none =
-      let same : finished new.engine ≡ finished old.engine = reported.all ∙ none in
+      let same : finished new ≡ finished old = ran.all ∙ none in
       record {
         batches = cut.batches;
         most = omega (arith, same, cut.full);
         least = omega (arith, same, cut.full, some);
-        mark = unmarked (omega (arith, none)) ∙ mark_none plan.settings.keep plan.settings.batch cut.batches (finished old.engine) old.engine.store.mark cut.full cut.mark
-            ∙ ap (λ (n : ℕ). min n (plan.settings.batch * (cut.batches - plan.settings.keep))) (sym same);
+        mark = unmarked (omega (arith, none)) ∙ mark_none settings.keep settings.batch cut.batches (finished old) old.store.mark cut.full cut.mark
+            ∙ ap (λ (n : ℕ). min n (settings.batch * (cut.batches - settings.keep))) (sym same);
       }
 
-  trimmed_by : (by : Cut) → IsCutBy by plan.settings old.engine → finished old.engine ≤ count → count ≤ finished old.engine + plan.settings.batch
-      → 0 < plan.settings.batch → IsTrimmedBy by plan.settings new.engine
+  trimmed_by : (by : Cut) → IsCutBy by settings old → finished old ≤ count → count ≤ finished old + settings.batch
+      → 0 < settings.batch → IsTrimmedBy by settings new
   trimmed_by Cut.WhenFull cut within most some =
-      elim (cases_lt (finished old.engine) count) [
+      elim (cases_lt (finished old) count) [
         | inl more ↦ trimmed_last cut most more
         | inr none ↦ trimmed_none cut some (omega (arith, none, within))
       ]
   trimmed_by Cut.BeforeReads cut within most some = cut_early cut within most
 
-  pub trimmed_all : IsFilling plan old → IsTrimmedBy plan.cut plan.settings new.engine
-  trimmed_all filling =
-      trimmed_by plan.cut filling.cut (omega (arith, filling.counted)) filling.most (limits plan.settings filling.within).batch_some
+-- where no rows before a batch are kept
+pub mark_alone : (batch : ℕ) (old new : Run) → RunsBatch (in_order batch) old new → old.store.mark ≡ finished old → finished old ≤ length old.log.statements
+    → new.store.mark ≡ finished new
+mark_alone batch old new ran mark within =
+    elim (cases_lt (finished old) (length old.log.statements)) [
+      | inl more ↦ marked (in_order batch) old new ran more ∙ sym ran.all
+      | inr none ↦ unmarked (in_order batch) old new ran none ∙ mark ∙ omega (arith, none, within, ran.all)
+    ]
 
-  -- all lines that waited are reported
-  pub reports_all : IsFilling plan old → IsDue plan.cut plan.settings old.engine → ReportsFirst plan old new
-  reports_all filling due = record {
-    log = reported.log;
-    number = reported.number;
-    lines = record {
-      out = old.waiting.items;
-      all = sym (append-nil old.waiting.items) ∙ ap (λ (ls : List LineOutcome). old.waiting.items ++ ls) (sym reported.left);
-      first = old.number - length old.waiting.items;
-      number = omega (arith, filling.few);
-      told = reported.told;
-      places = reported.all ∙ sym filling.counted;
-    };
-    room = open_next filling due;
+module _ (plan : Plan) (old new : LineRun) (reported : ReportsAll plan old new) (steady : IsSteady plan old) where
+  steady_between : Between old
+  steady_between = ran_between plan.cut old steady.ran steady.counted
+
+  new_counts : length new.engine.log.statements ≡ length old.engine.log.statements
+  new_counts = ap (λ (log : Accepted). length log.statements) reported.ran.log
+
+  -- the next batch, after one that is due
+  steady_next : IsDue plan.cut plan.settings old.engine → IsSteady plan new
+  steady_next due = record {
+    within = steady.within;
+    counted = omega (arith, new_counts, reported.reported, ap places_in reported.left);
+    ran = ran_all plan.cut new.reported new.engine (reported.reported ∙ sym reported.ran.all) (omega (arith, reported.ran.all, new_counts));
+    numbered = omega (arith, steady.numbered, reported.lines, ap length reported.left);
+    kept = reported.kept;
+    cut = cut_next plan.settings old.engine new.engine reported.ran plan.cut steady.cut steady_between.most
+        (omega (arith, steady.most, steady_between.least)) (limits plan.settings steady.within).batch_some due;
+    swept = reported.ran.swept;
+    most = omega (arith, new_counts, reported.reported);
   }
 
 -- where batches end before reads one may end before it is full
-pub reports_early : (plan : Plan) (old new : Batching) → IsFilling plan old → plan.cut ≡ Cut.BeforeReads → ReportsAll plan old new → ReportsFirst plan old new
+pub steady_early : (plan : Plan) (old new : LineRun) → IsSteady plan old → plan.cut ≡ Cut.BeforeReads → ReportsAll plan old new → IsSteady plan new
+steady_early plan old new steady early reported =
+    steady_next plan old new reported steady (subst (λ (cut : Cut). IsDue cut plan.settings old.engine) (sym early) tt)
+
+module _ (plan : Plan) (old new : LineRun) (reported : ReportsAll plan old new) (filling : IsFilling plan old) where
+  between : Between old
+  between = ran_between plan.cut old filling.steady.ran filling.steady.counted
+
+  counts : length new.engine.log.statements ≡ length old.engine.log.statements
+  counts = ap (λ (log : Accepted). length log.statements) reported.ran.log
+
+  some : 0 < plan.settings.batch
+  some = (limits plan.settings filling.steady.within).batch_some
+
+  -- the next batch, after one that is due
+  open_next : IsDue plan.cut plan.settings old.engine → IsOpen plan new
+  open_next due = record {
+    filling = record {
+      whole = subst IsWhole (sym reported.ran.log) filling.whole;
+      steady = steady_next plan old new reported filling.steady due;
+    };
+    less = omega (arith, counts, reported.reported, some);
+  }
+
+  pub trimmed_all : IsTrimmedBy plan.cut plan.settings new.engine
+  trimmed_all =
+      trimmed_by plan.settings old.engine new.engine reported.ran plan.cut filling.steady.cut between.most (omega (arith, filling.steady.most, between.least)) some
+
+  -- all lines that waited are reported
+  pub reports_all : IsDue plan.cut plan.settings old.engine → ReportsFirst plan old new
+  reports_all due = record {
+    log = reported.ran.log;
+    number = omega (arith, reported.lines, ap length reported.left);
+    lines = record {
+      out = old.waiting.items;
+      all = sym (append-nil old.waiting.items) ∙ ap (λ (ls : List LineOutcome). old.waiting.items ++ ls) (sym reported.left);
+      first = old.lines + 1;
+      number = omega arith;
+      told = reported.told;
+      places = reported.reported ∙ sym filling.steady.counted;
+    };
+    room = open_next due;
+  }
+
+-- where batches end before reads one may end before it is full
+pub reports_early : (plan : Plan) (old new : LineRun) → IsFilling plan old → plan.cut ≡ Cut.BeforeReads → ReportsAll plan old new → ReportsFirst plan old new
 reports_early plan old new filling early reported =
     reports_all plan old new reported filling (subst (λ (cut : Cut). IsDue cut plan.settings old.engine) (sym early) tt)
 
 -- none is reported
-pub reports_none : (plan : Plan) (batching : Batching) → IsOpen plan batching → ReportsFirst plan batching batching
-reports_none plan batching room = record {
+pub reports_none : (plan : Plan) (run : LineRun) → IsOpen plan run → ReportsFirst plan run run
+reports_none plan run room = record {
   log = refl;
   number = refl;
   lines = record {
     out = [];
     all = refl;
-    first = batching.number - length batching.waiting.items;
-    number = omega (arith, room.filling.few);
-    told = sym (append-nil batching.pending.items);
+    first = run.lines + 1;
+    number = omega arith;
+    told = sym (append-nil run.pending.items);
     places = omega arith;
   };
   room = room;
@@ -275,38 +308,45 @@ cut_longer Cut.WhenFull settings run log cut = record { batches = cut.batches; f
 cut_longer Cut.BeforeReads settings run log cut = record { least = cut.least; most = cut.most }
 
 -- a line that was taken fills the batch by one statement at most
-pub filled : (plan : Plan) (old new : Batching) (reading : ParsedLine) → IsOpen plan old → Takes reading old new → IsWhole new.engine.log → IsFilling plan new
-filled plan old new reading room takes whole =
+pub steady_taken : (plan : Plan) (old new : LineRun) (reading : ParsedLine) → IsSteady plan old → HasRoomForLine plan old → next_line old < 2 ^ 64
+    → Takes reading old new → IsSteady plan new
+steady_taken plan old new reading was less number takes =
     let log : Accepted = old.engine.log in
-    let was = room.filling in
     let line : LineOutcome = line_outcome log.names reading in
+    let longer : length new.engine.log.statements ≡ length log.statements + length (accepted log.names reading) =
+    ap (λ (run : Run). length run.log.statements) takes.engine ∙ length-append log.statements (accepted log.names reading) in
+    let dropped = ap (λ (run : Run). run.dropped) takes.engine in
     record {
       within = was.within;
-      whole = whole;
       counted = counted_more old new reading was.counted takes;
-      few = omega (arith, was.few, takes.number, ap length takes.waiting, length-append old.waiting.items (line ∷ []));
-      kept = kept_longer plan.history old.engine new.engine (ap (λ (run : Run). run.dropped) takes.engine) (ap finished takes.engine) was.kept;
+      ran = ran_longer plan.cut old.reported new.reported old.engine new.engine takes.reported (ap finished takes.engine) (omega (arith, longer)) was.ran;
+      numbered = omega (arith, number, takes.lines, ap length takes.waiting, length-append old.waiting.items (line ∷ []));
+      kept = kept_longer plan.history old.reported new.reported old.engine new.engine dropped takes.reported was.kept;
       cut = subst (IsCutBy plan.cut plan.settings) (sym takes.engine) (cut_longer plan.cut plan.settings old.engine (with_reading log reading) was.cut);
       swept = subst IsSwept (sym (ap (λ (run : Run). run.store) takes.engine)) was.swept;
-      most = subst (λ (run : Run). length run.log.statements ≤ finished run + plan.settings.batch) (sym takes.engine)
-          (omega (arith, room.less, one_more log.names reading, length-append log.statements (accepted log.names reading)));
+      most = omega (arith, less, one_more log.names reading, longer, takes.reported);
     }
 
+pub filled : (plan : Plan) (old new : LineRun) (reading : ParsedLine) → IsOpen plan old → next_line old < 2 ^ 64 → Takes reading old new → IsFilling plan new
+filled plan old new reading room number takes =
+    record { whole = takes.whole; steady = steady_taken plan old new reading room.filling.steady room.less number takes }
+
 -- a line that was taken, and what was reported then
-pub dealt : (plan : Plan) (reading : ParsedLine) (old taken new : Batching) → Takes reading old taken → ReportsFirst plan taken new → Deals reading old new
+pub dealt : (plan : Plan) (reading : ParsedLine) (old taken new : LineRun) → Takes reading old taken → ReportsFirst plan taken new → Deals reading old new
 dealt plan reading old taken new takes put =
-    let done : finished taken.engine ≡ finished old.engine = ap finished takes.engine in
-    let lines : List LineOutcome = old.waiting.items ++ line_outcome old.engine.log.names reading ∷ [] in
+    let line : LineOutcome = line_outcome old.engine.log.names reading in
+    let lines : List LineOutcome = old.waiting.items ++ line ∷ [] in
+    let number : next_line taken ≡ next_line old + 1 = omega (arith, takes.lines, ap length takes.waiting, length-append old.waiting.items (line ∷ [])) in
     let P : Accepted → ℕ → List LineOutcome → ℕ → List ℕ → Type 0 =
-    λ l d ls n pending. ReportsLines l d (finished new.engine) ls new.waiting.items n pending new.pending.items in
+    λ l d ls n pending. ReportsLines l d new.reported ls new.waiting.items n pending new.pending.items in
     record {
       log = put.log ∙ ap (λ (run : Run). run.log) takes.engine;
-      number = put.number ∙ takes.number;
-      reports = subst (λ (l : Accepted). P l (finished old.engine) lines new.number old.pending.items) (sym put.log)
-          (subst (λ (n : ℕ). P taken.engine.log (finished old.engine) lines n old.pending.items) (sym put.number)
-          (subst (λ (pending : List ℕ). P taken.engine.log (finished old.engine) lines taken.number pending) takes.pending
-          (subst (λ (ls : List LineOutcome). P taken.engine.log (finished old.engine) ls taken.number taken.pending.items) takes.waiting
-          (subst (λ (n : ℕ). P taken.engine.log n taken.waiting.items taken.number taken.pending.items) done put.lines))));
+      number = put.number ∙ number;
+      reports = subst (λ (l : Accepted). P l old.reported lines (next_line new) old.pending.items) (sym put.log)
+          (subst (λ (n : ℕ). P taken.engine.log old.reported lines n old.pending.items) (sym put.number)
+          (subst (λ (pending : List ℕ). P taken.engine.log old.reported lines (next_line taken) pending) takes.pending
+          (subst (λ (ls : List LineOutcome). P taken.engine.log old.reported ls (next_line taken) taken.pending.items) takes.waiting
+          (subst (λ (n : ℕ). P taken.engine.log n taken.waiting.items (next_line taken) taken.pending.items) takes.reported put.lines))));
     }
 
 -- before the first batch
@@ -314,7 +354,7 @@ none_behind : (keep batch : ℕ) → mark_by keep batch 0 0 ≡ 0
 none_behind zero batch = refl
 none_behind (suc keep) batch = omega (arith, some-kept keep batch 0 0)
 
-cut_first : (by : Cut) (settings : Settings) (batching : Batching) → IsFresh batching → IsCutBy by settings batching.engine
+cut_first : (by : Cut) (settings : Settings) (batching : LineRun) → IsFresh batching → IsCutBy by settings batching.engine
 cut_first Cut.WhenFull settings batching first =
     record { batches = 0; full = omega (arith, first.none); mark = first.mark ∙ sym (nothing settings.batch settings.keep) }
   where
@@ -332,19 +372,24 @@ cut_first Cut.BeforeReads settings batching first =
     record { least = omega (arith, least, earlier, no_mark); most = omega (arith, first.mark) }
 
 -- at first
-pub open_first : (plan : Plan) (batching : Batching) → are_within_limits plan.settings ≡ true → IsFresh batching → IsOpen plan batching
-open_first plan batching within first =
-    let none : length batching.engine.log.statements ≡ 0 = ap (λ (log : Accepted). length log.statements) first.log in
+pub steady_first : (plan : Plan) (run : LineRun) → are_within_limits plan.settings ≡ true → IsFresh run → IsSteady plan run
+steady_first plan run within first =
+    let none : length run.engine.log.statements ≡ 0 = ap (λ (log : Accepted). length log.statements) first.log in
     record {
-      filling = record {
-        within = within;
-        whole = first.whole;
-        counted = counted_start batching.engine batching.waiting.items first.log first.none first.nobody;
-        few = omega (arith, ap length first.nobody, first.number);
-        kept = kept_first plan.history batching.engine first.kept first.none;
-        cut = cut_first plan.cut plan.settings batching first;
-        swept = swept_first batching.engine.store first.mark;
-        most = omega (arith, none);
-      };
+      within = within;
+      counted = omega (arith, none, first.reported, ap places_in first.nobody);
+      ran = ran_all plan.cut run.reported run.engine (first.reported ∙ sym first.none) (omega (arith, first.none));
+      numbered = omega (arith, first.lines, ap length first.nobody);
+      kept = kept_first plan.history run.reported run.engine first.kept first.reported;
+      cut = cut_first plan.cut plan.settings run first;
+      swept = swept_first run.engine.store first.mark;
+      most = omega (arith, none);
+    }
+
+pub open_first : (plan : Plan) (run : LineRun) → are_within_limits plan.settings ≡ true → IsFresh run → IsOpen plan run
+open_first plan run within first =
+    let none : length run.engine.log.statements ≡ 0 = ap (λ (log : Accepted). length log.statements) first.log in
+    record {
+      filling = record { whole = first.whole; steady = steady_first plan run within first };
       less = omega (arith, none, (limits plan.settings within).batch_some);
     }

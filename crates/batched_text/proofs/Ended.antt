@@ -1,28 +1,27 @@
 -- The report at its end, and what was written when a fault comes.
-use Rattle.std.proofs.Common.{◌≡◌, ◌≤◌, ◌+◌, ◌-◌, ◌++◌, ℕ, List, [], ◌∷◌, Option, Some, None, length, refl, ap, sym, ◌∙◌, subst, arith, append_assoc}
+use Rattle.std.proofs.Common.{◌≡◌, ◌≤◌, ◌+◌, ◌++◌, ℕ, List, [], ◌∷◌, Option, Some, None, length, refl, ap, sym, ◌∙◌, subst, arith, append_assoc}
 use Rattle.std.specs.Io.KnownBytes.{Appends, prepend_known}
 use Rattle.std.proofs.lemmas.List.{append-nil, length-append}
 use Rattle.line_io.specs.Known.{AppendsFront, MovesOut}
 use Rattle.line_io.proofs.Written.{appends_then}
 use Rattle.log_text.specs.Statement.{Sentence}
 use Rattle.sequencer.specs.Catalog.{Names}
-use Rattle.sequencer.specs.Log.{Accepted, empty_log}
+use Rattle.sequencer.specs.Log.{Accepted}
 use Rattle.sequencer.specs.Refusal.{refusal}
 use Rattle.sequencer.specs.declared.refused.Refused.{Refused}
 use Rattle.report.specs.Report.{ParsedLine, accepted, faulty, the_heading, read, statement_if}
 use Rattle.bohm_base.specs.declared.collecting.LineOutcome.{LineOutcome}
-use Rattle.bohm_base.specs.Collecting.{Collects, IsLogOf, line_outcome, outcome_unless, log_text, places_of}
+use Rattle.bohm_base.specs.Collecting.{Collects, IsLogOf, line_outcome, log_text, outcome_unless, places_in, places_of}
 use Rattle.bohm_base.proofs.Beginnings.{rest_lost}
 use Rattle.bohm_base.proofs.Reached.{report_begun, appends_nothing}
 use Rattle.bohm_base.specs.Pending.{HasBegunReport, HasReport}
 use Rattle.bohm_base.proofs.LinesRead.{collect_end}
 use Rattle.bohm_base.proofs.Logs.{report_is}
-use Rattle.engine.specs.Engine.{Run, finished}
+use Rattle.engine.specs.Engine.{Run}
 use Rattle.batched_text.specs.Batching.{AreReadFirst, Batched, BatchedUpTo, Gathers, IsBatched, IsCounted, IsFresh, IsLogOfText, Takes, lines_text}
-use Rattle.batched_text.specs.declared.batching.Batching.{Batching}
-use Rattle.batched_text.specs.Places.{places_in}
+use Rattle.batched_text.specs.declared.line_run.LineRun.{LineRun}
 use Rattle.batched_text.proofs.Ends.{read_before, read_start}
-use Rattle.batched_text.proofs.Reports.{parts}
+use Rattle.bohm_base.proofs.Beginnings.{parts}
 use Rattle.batched_text.proofs.Sofar.{places-append}
 
 -- a line has as many places as it adds statements
@@ -39,14 +38,20 @@ places_are names the_heading = refl
 places_are names (read sentence) = places_if names sentence (refusal names sentence)
 places_are names (faulty fault) = refl
 
-pub counted_more : (old new : Batching) (reading : ParsedLine) → IsCounted old.engine old.waiting.items → Takes reading old new → IsCounted new.engine new.waiting.items
+pub counted_more : (old new : LineRun) (reading : ParsedLine) → IsCounted old → Takes reading old new → IsCounted new
 counted_more old new reading counted takes =
     let log : Accepted = old.engine.log in
-    let waiting : List LineOutcome = old.waiting.items in
     let line : LineOutcome = line_outcome log.names reading in
-    subst (λ (run : Run). IsCounted run new.waiting.items) (sym takes.engine)
-    (subst (λ (ls : List LineOutcome). finished old.engine + places_in ls ≡ length (log.statements ++ accepted log.names reading)) (sym takes.waiting)
-    (omega (arith, counted, places-append waiting (line ∷ []), places_are log.names reading, length-append log.statements (accepted log.names reading))))
+    omega (
+      arith,
+      counted,
+      takes.reported,
+      ap places_in takes.waiting,
+      places-append old.waiting.items (line ∷ []),
+      places_are log.names reading,
+      ap (λ (run : Run). length run.log.statements) takes.engine,
+      length-append log.statements (accepted log.names reading),
+    )
 
 -- a line adds one statement at most
 pub one_more : (names : Names) (reading : ParsedLine) → length (accepted names reading) ≤ 1
@@ -55,7 +60,7 @@ one_more names (read sentence) = one_if names sentence (refusal names sentence)
 one_more names (faulty fault) = omega arith
 
 -- at first nothing is read, and nothing is written
-pub batched_start : (i o : Option (List ℕ)) (bytes : List ℕ) (batching : Batching) → bytes ≡ [] → IsFresh batching
+pub batched_start : (i o : Option (List ℕ)) (bytes : List ℕ) (batching : LineRun) → bytes ≡ [] → IsFresh batching
     → BatchedUpTo i (prepend_known bytes i) o o batching
 batched_start None o bytes batching b first = tt
 batched_start (Some xs) o bytes batching b first = (
@@ -68,18 +73,14 @@ batched_start (Some xs) o bytes batching b first = (
       reported = [];
       made = subst (λ (ls : List LineOutcome). IsLogOf [] batching.engine.log ls) (sym first.nobody)
           (subst (λ (log : Accepted). IsLogOf [] log []) (sym first.log) (record { names = refl; statements = refl; each = refl }));
-      number = omega (arith, ap length first.nobody, first.number);
-      places = sym first.none;
+      number = omega (arith, ap length first.nobody, first.lines);
+      places = sym first.reported;
       text = first.nothing;
       whole = first.whole;
-      within = omega (arith, first.none);
+      within = omega (arith, first.reported);
     },
   ),
 )
-
-pub counted_start : (run : Run) (waiting : List LineOutcome) → run.log ≡ empty_log → finished run ≡ 0 → waiting ≡ [] → IsCounted run waiting
-counted_start run waiting l none nobody =
-    subst (λ (ls : List LineOutcome). IsCounted run ls) (sym nobody) (omega (arith, none, ap (λ (log : Accepted). length log.statements) l))
 
 -- what was pending is written
 pub batched_written : (i j o n m : Option (List ℕ)) (pending less : List ℕ) (log : Accepted) (done : ℕ) (waiting : List LineOutcome) (next : ℕ)
@@ -100,8 +101,8 @@ pub begun_cut : (i o n m : Option (List ℕ)) (pending less : List ℕ) → HasB
 begun_cut i o n m pending less begun front none = report_begun i o n m pending less begun (rest_lost n m pending less front none)
 
 -- at the end of the input, the waiting lines reported, the report is whole
-module _ (o n : Option (List ℕ)) (batching : Batching) (text : List ℕ)
-    (told : text ≡ batching.pending.items ++ lines_text batching.engine.log (batching.number - length batching.waiting.items) (finished batching.engine) batching.waiting.items) where
+module _ (o n : Option (List ℕ)) (batching : LineRun) (text : List ℕ)
+    (told : text ≡ batching.pending.items ++ lines_text batching.engine.log (batching.lines + 1) batching.reported batching.waiting.items) where
   ended : (xs : List ℕ) → BatchedUpTo (Some xs) (Some []) o n batching → HasReport (Some xs) o n text
   ended xs so =
       let was = so.1.1 in
@@ -109,8 +110,8 @@ module _ (o n : Option (List ℕ)) (batching : Batching) (text : List ℕ)
       let waiting : List LineOutcome = batching.waiting.items in
       let all : List LineOutcome = was.reported ++ waiting in
       let collects : Collects xs log all = collect_end (Some xs) (Some []) log all (was.earlier, (read_before xs [] was.earlier was.leads, was.made)) refl in
-      let number : batching.number - length waiting ≡ 1 + length was.reported = omega (arith, was.number) in
-      let place : finished batching.engine ≡ 0 + places_in was.reported = omega (arith, was.places) in (
+      let number : batching.lines + 1 ≡ 1 + length was.reported = omega (arith, was.number) in
+      let place : batching.reported ≡ 0 + places_in was.reported = omega (arith, was.places) in (
         log_text log all,
         (
           report_is xs log all collects,
@@ -118,9 +119,9 @@ module _ (o n : Option (List ℕ)) (batching : Batching) (text : List ℕ)
             so.0,
             so.1.0,
             ap (λ (w : List ℕ). so.0 ++ w) told
-                ∙ sym (append_assoc so.0 batching.pending.items (lines_text log (batching.number - length waiting) (finished batching.engine) waiting))
-                ∙ ap (λ (w : List ℕ). w ++ lines_text log (batching.number - length waiting) (finished batching.engine) waiting) was.text
-                ∙ ap (λ (k : ℕ). lines_text log 1 0 was.reported ++ lines_text log k (finished batching.engine) waiting) number
+                ∙ sym (append_assoc so.0 batching.pending.items (lines_text log (batching.lines + 1) batching.reported waiting))
+                ∙ ap (λ (w : List ℕ). w ++ lines_text log (batching.lines + 1) batching.reported waiting) was.text
+                ∙ ap (λ (k : ℕ). lines_text log 1 0 was.reported ++ lines_text log k batching.reported waiting) number
                 ∙ ap (λ (p : ℕ). lines_text log 1 0 was.reported ++ lines_text log (1 + length was.reported) p waiting) place
                 ∙ sym (parts log.statements log.names 1 0 was.reported waiting),
           ),
@@ -132,7 +133,7 @@ module _ (o n : Option (List ℕ)) (batching : Batching) (text : List ℕ)
   ended_batched (Some xs) left gathers = ended xs gathers.1
 
 -- and the log is that of the text
-pub log_ended : (i left o n : Option (List ℕ)) (batching : Batching) → Gathers i left o n batching → IsLogOfText i batching.engine.log
+pub log_ended : (i left o n : Option (List ℕ)) (batching : LineRun) → Gathers i left o n batching → IsLogOfText i batching.engine.log
 log_ended None left o n batching gathers = tt
 log_ended (Some xs) left o n batching gathers =
     let was = gathers.1.1.1 in

@@ -1,18 +1,17 @@
 -- A fault that is passed on tells the same failures.
 use Rattle.std.proofs.Common.{◌≡◌, ◌<◌, ◌≤◌, ◌+◌, ℕ, Result, Ok, Err, refl, sym, ap, ◌∙◌, arith, inl, inr, subst}
 use Rattle.std.specs.Prelude.{IfErr, IsErrAnd, OnErr, OnOk}
+use Rattle.line_io.specs.Faults.{IsOfReading}
 use Rattle.line_io.specs.Known.{raised}
 use Rattle.line_io.specs.declared.fault.EngineFault.{EngineFault}
-use Rattle.line_io.specs.declared.fault.ReadFault.{ReadFault}
 use Rattle.bohm_base.specs.Faults.{IsFaultInOrder, read_errors, write_errors}
-use Rattle.workers.specs.Faults.{engine_fault}
-use Rattle.workers.specs.declared.fault.RunFault.{RunFault}
+use Rattle.workers.specs.Faults.{IsRunFault}
 use Rattle.batched_text.specs.Batching.{IsFaultOfBatch}
 use Rattle.batched_text.specs.Faults.{IsOfBatch, IsOfRun}
-use Rattle.batched_text.specs.declared.batching.Batching.{Batching}
+use Rattle.batched_text.specs.declared.line_run.LineRun.{LineRun}
 use Rattle.batched_text.specs.declared.history.Plan.{Plan}
 
-told_on : {B E : Type 0} (fault : E) (result : Result B E) → IsErrAnd result (λ other. other ≡ fault) → result ≡ Err fault
+pub told_on : {B E : Type 0} (fault : E) (result : Result B E) → IsErrAnd result (λ other. other ≡ fault) → result ≡ Err fault
 told_on fault (Ok value) same = absurd same
 told_on fault (Err other) same = ap Err same
 
@@ -38,30 +37,43 @@ write_counted A EngineFault.Spawn result written old mid new told is counted sam
     absurd (cc (sym (told_on EngineFault.Spawn result told) ∙ is))
 
 -- a failure of the reader is given as one
-pub read_on : {A B : Type 0} (fault : ReadFault) (result : Result B ReadFault) → IsErrAnd result (λ other. other ≡ fault) → (first : Result A ReadFault) → first ≡ Err fault
-    → first ≡ Err ReadFault.Read → result ≡ Err ReadFault.Read
+pub read_on : {A B : Type 0} (fault : EngineFault) (result : Result B EngineFault) → IsErrAnd result (λ other. other ≡ fault) → (first : Result A EngineFault) → first ≡ Err fault
+    → first ≡ Err EngineFault.Read → result ≡ Err EngineFault.Read
 read_on fault result same first comes is = told_on fault result same ∙ ap Err (cc)
 
--- a fault of a batch that is passed on is one of a batch, and what was pending is
-pub stops_told : {A : Type 0} (plan : Plan) (old mid new : Batching) (fault : EngineFault) (result : Result A EngineFault)
-    → IsErrAnd result (λ other. other ≡ fault) → IsFaultOfBatch plan mid new fault → mid.pending.items ≡ old.pending.items
-    → IfErr result (IsFaultOfBatch plan old new)
-stops_told plan old mid new fault (Ok value) same stops kept = absurd same
-stops_told plan old mid new fault (Err other) same stops kept = (subst (IsOfBatch plan.settings.workers) (sym same) stops.0, stops.1 ∙ kept)
+-- a fault of a batch that is passed on is one of a batch
+pub batch_told : {A : Type 0} (workers : ℕ) (fault : EngineFault) (result : Result A EngineFault) → IsErrAnd result (λ other. other ≡ fault)
+    → IsOfBatch workers fault → IfErr result (IsOfBatch workers)
+batch_told workers fault (Ok value) same stops = absurd same
+batch_told workers fault (Err other) same stops = subst (IsOfBatch workers) (sym same) stops
 
-pub stops_memory : {A : Type 0} (plan : Plan) (old new : Batching) (result : Result A EngineFault) → IsErrAnd result (λ other. other ≡ EngineFault.NoMemory)
-    → new.pending.items ≡ old.pending.items → IfErr result (IsFaultOfBatch plan old new)
-stops_memory plan old new (Ok value) same kept = absurd same
-stops_memory plan old new (Err other) same kept = (inl same, kept)
+-- so is that of workers: no thread is started for one
+pub workers_told : {A B : Type 0} (workers : ℕ) (fault : EngineFault) (found : Result B EngineFault) (result : Result A EngineFault)
+    → found ≡ Err fault → IsErrAnd result (λ other. other ≡ fault) → IsRunFault fault → (workers ≤ 1 → found ≡ Err EngineFault.Spawn → ⊥)
+    → IfErr result (IsOfBatch workers)
+workers_told workers fault found (Ok value) is same run alone = absurd same
+workers_told workers fault found (Err other) is same (inl memory) alone = inl (same ∙ memory)
+workers_told workers fault found (Err other) is same (inr start) alone =
+    inr (same ∙ start, omega (arith, λ (one : workers ≤ 1). alone one (is ∙ ap Err start)))
 
--- so is the fault of the batch itself: no thread is started for one worker
-pub stops_batch : {A B : Type 0} (plan : Plan) (old new : Batching) (fault : RunFault) (found : Result B RunFault) (result : Result A EngineFault)
-    → found ≡ Err fault → IsErrAnd result (λ other. other ≡ engine_fault fault) → (plan.settings.workers ≤ 1 → found ≡ Err RunFault.Spawn → ⊥)
-    → new.pending.items ≡ old.pending.items → IfErr result (IsFaultOfBatch plan old new)
-stops_batch plan old new fault found (Ok value) is same alone kept = absurd same
-stops_batch plan old new RunFault.NoMemory found (Err other) is same alone kept = (inl same, kept)
-stops_batch plan old new RunFault.Spawn found (Err other) is same alone kept =
-    (inr (same, omega (arith, λ (one : plan.settings.workers ≤ 1). alone one is)), kept)
+-- a batch's fault is none of the reader's; with one worker memory ran out
+pub never_reads : {A : Type 0} (workers : ℕ) (fault : EngineFault) (result : Result A EngineFault) → IsErrAnd result (λ other. other ≡ fault)
+    → IsOfBatch workers fault → result ≡ Err EngineFault.Read → ⊥
+never_reads workers fault (Ok value) same stops is = absurd same
+never_reads workers fault (Err other) same (inl memory) is = cc (sym is ∙ ap Err (same ∙ memory))
+never_reads workers fault (Err other) same (inr start) is = cc (sym is ∙ ap Err (same ∙ start.0))
+
+pub reading_told : {A : Type 0} (fault : EngineFault) (result : Result A EngineFault) → IsErrAnd result (λ other. other ≡ fault)
+    → IsOfBatch 1 fault → IfErr result IsOfReading
+reading_told fault (Ok value) same stops = absurd same
+reading_told fault (Err other) same (inl memory) = inl (same ∙ memory)
+reading_told fault (Err other) same (inr start) = absurd (omega (arith, start.1))
+
+-- the lines wait still
+pub stays_told : {A : Type 0} (plan : Plan) (old new : LineRun) (fault : EngineFault) (result : Result A EngineFault)
+    → IsErrAnd result (λ other. other ≡ fault) → IsFaultOfBatch plan old new fault → IfErr result (IsFaultOfBatch plan old new)
+stays_told plan old new fault (Ok value) same stops = absurd same
+stays_told plan old new fault (Err other) same stops = subst (IsFaultOfBatch plan old new) (sym same) stops
 
 -- a fault of a batch is one of a run
 run_of : {workers : ℕ} (fault : EngineFault) → IsOfBatch workers fault → IsOfRun workers fault

@@ -1,7 +1,7 @@
 -- What a line that was read before its turn results in in its turn.
 use Rattle.std.proofs.Common.{◌≡◌, ℕ, ◌<◌, List, ◌++◌, ap, arith, length, refl, sym, ◌∙◌, subst}
 use Rattle.std.proofs.lemmas.Bool.{ne_eqb}
-use Rattle.std.specs.Prelude.{◌==◌, Bool, Err, false, Ok, Option, None, slice_index_or}
+use Rattle.std.specs.Prelude.{◌==◌, Bool, false, Option, None, slice_index_or}
 use Rattle.model_base.specs.declared.limits.TheConstants.{MOST_PLACES}
 use Rattle.model_base.specs.declared.statement.Statement.{Statement}
 use Rattle.log_text.specs.Fault.{fault_in}
@@ -22,10 +22,10 @@ use Rattle.read_ahead.specs.declared.ahead.Found.{Found}
 use Rattle.report.specs.Report.{ParsedLine, faulty, names_if, read, statement_if}
 use Rattle.bohm_base.specs.Collecting.{ReadsAs, line_outcome, outcome_unless, with_reading}
 use Rattle.bohm_base.specs.declared.collecting.LineOutcome.{LineOutcome}
-use Rattle.bohm_base.proofs.LinesRead.{reads_as}
+use Rattle.bohm_base.proofs.LinesRead.{reads_faulty, reads_statement}
 use Rattle.batched_text.specs.Batching.{Deals}
 use Rattle.batched_text.specs.Foretold.{WasReadAhead, WereReadAhead, log_names}
-use Rattle.batched_text.specs.declared.batching.Batching.{Batching}
+use Rattle.batched_text.specs.declared.line_run.LineRun.{LineRun}
 use Rattle.batched_text.proofs.LaterNames.{begins_reading}
 
 -- a sentence that passes its tests is read into the log as it is accepted
@@ -39,11 +39,11 @@ known_became names sentence passes = ap outcome_unless (sym passes)
 -- what was found of a line is how it is read
 known_reading : (version : Version) (line : List ℕ) (sentence : Sentence) → ReadsIn version line sentence → fault_in version line ≡ None
     → ReadsAs false version line (read sentence)
-known_reading version line sentence reads sound = reads_as false version line (Ok sentence) refl reads sound tt (λ same. cc)
+known_reading version line sentence reads sound = reads_statement false version line sentence refl reads sound
 
 -- so a line is read of which a statement was found; while the log is the same and has a place left, it takes the line's sentence as that
 -- statement
-pub known_at : (old now : Batching) (bytes : List ℕ) (ahead : Ahead) (statement : Statement) → now.engine.log ≡ old.engine.log → IsWhole now.engine.log
+pub known_at : (old now : LineRun) (bytes : List ℕ) (ahead : Ahead) (statement : Statement) → now.engine.log ≡ old.engine.log → IsWhole now.engine.log
     → length old.engine.log.statements < MOST_PLACES → WasReadAhead (log_names old) bytes ahead → ahead.found ≡ Found.Known statement
     → (sentence : Sentence) × (IsInGrammar sentence × (ReadsAs false (log_names now).version (line_from bytes ahead.from) (read sentence) × IsForetold (log_names now) sentence statement))
 known_at old now bytes ahead statement same whole place was is =
@@ -62,8 +62,7 @@ pub faulty_at : (now : Names) (bytes : List ℕ) (ahead : Ahead) (fault : LineFa
     → ReadsAs false now.version (line_from bytes ahead.from) (faulty fault)
 faulty_at now bytes ahead fault was is =
     subst (λ (v : Version). ReadsAs false v (line_from bytes ahead.from) (faulty fault)) was.version
-    (reads_as false was.names.version (line_from bytes ahead.from) (Err fault) refl tt tt (λ told. was.ahead.found.faulty fault is)
-    (λ same. was.ahead.found.told (is ∙ ap (λ (f : LineFault). Found.Faulty f) (let own : fault ≡ LineFault.NoMemory = cc in own))))
+    (reads_faulty false was.names.version (line_from bytes ahead.from) fault refl (was.ahead.found.faulty fault is))
 
 -- so a line after the first is read
 pub reads_later : (number : ℕ) (version : Version) (line : List ℕ) (reading : ParsedLine) → 1 < number → ReadsAs false version line reading
@@ -72,7 +71,7 @@ reads_later number version line reading begun reads =
     subst (λ (b : Bool). ReadsAs b version line reading) (sym (ne_eqb number 1 (λ same. omega (arith, same, begun)))) reads
 
 -- a line that was dealt with only names after it
-pub begins_dealt : (reading : ParsedLine) (old new : Batching) → Deals reading old new → Begins (log_names old) (log_names new)
+pub begins_dealt : (reading : ParsedLine) (old new : LineRun) → Deals reading old new → Begins (log_names old) (log_names new)
 begins_dealt reading old new deals =
     subst (λ (log : Accepted). Begins (log_names old) log.names) (sym deals.log) (begins_reading (log_names old) reading)
 

@@ -1,6 +1,5 @@
 pub mod Histories
 pub mod Sweeping
-pub mod PlacesTold
 pub mod Reports
 pub mod LaterNames
 pub mod Ends
@@ -12,5 +11,4 @@ pub mod Cutting
 pub mod Fronts
 pub mod ForetoldLines
 pub mod RunLines
-pub mod LineReadings
 pub mod Singles

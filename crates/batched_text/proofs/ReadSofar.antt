@@ -14,7 +14,7 @@ use Rattle.bohm_base.proofs.Reached.{begun_start, front_written}
 use Rattle.batched_text.specs.Batching.{Batched, BatchedUpTo, Gathers, HasBegunReportOfRead, IsBatched, WritesBegunReportOfRead}
 use Rattle.batched_text.specs.Foretold.{BeginsFrom}
 use Rattle.batched_text.specs.ReadBytes.{IfRead}
-use Rattle.batched_text.specs.declared.batching.Batching.{Batching}
+use Rattle.batched_text.specs.declared.line_run.LineRun.{LineRun}
 use Rattle.batched_text.proofs.Ended.{begun_cut, begun_whole}
 use Rattle.batched_text.proofs.Ends.{read_less}
 use Rattle.batched_text.proofs.Sofar.{begun_batched}
@@ -57,7 +57,7 @@ module _ (o n : Option (List ℕ)) (pending : List ℕ) (log : Accepted) (done :
       (λ given more less. begun_batched total (Some given) (Some (bytes ++ more)) o n pending log done waiting next less)
 
 -- so it is after a run of the lines that are available
-pub run_begun : (i j o n : Option (List ℕ)) (bytes : List ℕ) (old new : Batching) → BeginsFrom bytes 0 old new → BatchedUpTo i (prepend_known bytes j) o n old
+pub run_begun : (i j o n : Option (List ℕ)) (bytes : List ℕ) (old new : LineRun) → BeginsFrom bytes 0 old new → BatchedUpTo i (prepend_known bytes j) o n old
     → HasBegunReportOfRead i j o n new.pending.items
 run_begun i j o n bytes old new begins so =
     if_read o n _ _ _ _ _ i j j bytes (λ given. HasBegunReport (Some given) o n new.pending.items) so (read_none j)
@@ -95,7 +95,7 @@ none-last : (xs ys : List ℕ) → xs ++ ys ≡ [] → ys ≡ []
 none-last [] ys none = none
 none-last (x ∷ xs) ys none = absurd (cc)
 
-pub gathers_end : (i j k o n : Option (List ℕ)) (bytes : List ℕ) (batching : Batching) → BatchedUpTo i (prepend_known bytes j) o n batching → ReadSome j k
+pub gathers_end : (i j k o n : Option (List ℕ)) (bytes : List ℕ) (batching : LineRun) → BatchedUpTo i (prepend_known bytes j) o n batching → ReadSome j k
     → IsAtEnd (prepend_known bytes j) → Gathers i k o n batching
 gathers_end None j k o n bytes batching so some end = tt
 gathers_end (Some xs) None k o n bytes batching so some end = absurd so
@@ -106,7 +106,7 @@ gathers_end (Some xs) (Some ys) (Some zs) o n bytes batching so some end =
       subst (λ (w : List ℕ). BatchedUpTo (Some xs) (Some w) o n batching) end so,
     )
 
-pub read_whole : (i left o n m : Option (List ℕ)) (batching : Batching) (pending : List ℕ) → Gathers i left o n batching → HasReport i o m pending
+pub read_whole : (i left o n m : Option (List ℕ)) (batching : LineRun) (pending : List ℕ) → Gathers i left o n batching → HasReport i o m pending
     → HasBegunReportOfRead i left o m pending
 read_whole None left o n m batching pending gathers whole = tt
 read_whole (Some xs) left o n m batching pending gathers whole = (xs, (gathers.0, begun_whole (Some xs) o m pending whole))

@@ -12,12 +12,11 @@ use Rattle.sequencer.specs.Log.{Accepted}
 use Rattle.sequencer.specs.Whole.{IsAccepted, IsWhole}
 use Rattle.report.specs.Report.{place_text, text_of}
 use Rattle.report.specs.Text.{records_listed}
-use Rattle.bohm_base.specs.Collecting.{line_outcome_text, places_of, report_text}
+use Rattle.bohm_base.specs.Collecting.{line_outcome_text, places_in, places_of, report_text}
 use Rattle.bohm_base.specs.declared.collecting.LineOutcome.{LineOutcome}
 use Rattle.bohm_base.proofs.Named.{outcome-named}
 use Rattle.model_base.specs.Growing.{NeedsOwnTables, NeedsWithin}
 use Rattle.model_base.proofs.Growing.{get-front, outcome-stands}
-use Rattle.batched_text.specs.Places.{places_in}
 use Rattle.bohm_base.proofs.Reporting.{granted-known, outcome-granted, text-longer}
 
 pub needs-own : (log : Accepted) → IsWhole log → NeedsOwnTables log.statements
@@ -57,23 +56,6 @@ module _ (log : Accepted) (whole : IsWhole log) (more : List Statement) (later :
   longer number place (line ∷ lines) less =
       ap (λ t. t ++ report_text all later (number + 1) (place + places_of line) lines) (line-same number place line (omega (arith, less)))
       ∙ ap (λ t. line_outcome_text log.statements log.names number place line ++ t) (longer (number + 1) (place + places_of line) lines (omega (arith, less)))
-
-pub parts : (log : List Statement) (names : Names) (number place : ℕ) (lines later : List LineOutcome)
-    → report_text log names number place (lines ++ later)
-    ≡ report_text log names number place lines ++ report_text log names (number + length lines) (place + places_in lines) later
-parts log names number place [] later =
-    let a : number ≡ number + 0 = omega arith in
-    let b : place ≡ place + 0 = omega arith in
-    ap (λ (n : ℕ). report_text log names n place later) a ∙ ap (λ (p : ℕ). report_text log names (number + 0) p later) b
-parts log names number place (line ∷ lines) later =
-    let a : number + 1 + length lines ≡ number + suc (length lines) = omega arith in
-    let b : place + places_of line + places_in lines ≡ place + (places_of line + places_in lines) = omega arith in
-    let first = line_outcome_text log names number place line in
-    ap (λ t. first ++ t)
-    (parts log names (number + 1) (place + places_of line) lines later
-    ∙ ap (λ (n : ℕ). report_text log names (number + 1) (place + places_of line) lines ++ report_text log names n (place + places_of line + places_in lines) later) a
-    ∙ ap (λ (p : ℕ). report_text log names (number + 1) (place + places_of line) lines ++ report_text log names (number + suc (length lines)) p later) b)
-    ∙ sym (append_assoc first (report_text log names (number + 1) (place + places_of line) lines) _)
 
 -- what is looked up in the statements of a log is there
 pub looked : (statements all : List Statement) (place : ℕ) (statement : Statement) → statements ≡ all → place < length all

@@ -1,5 +1,5 @@
 -- Runs of lines, one after the other.
-use Rattle.std.proofs.Common.{◌≡◌, ◌<◌, ◌≤◌, ◌+◌, ◌++◌, ℕ, List, [], length, refl, ap, sym, ◌∙◌, subst, arith}
+use Rattle.std.proofs.Common.{◌≡◌, ◌<◌, ◌≤◌, ◌+◌, ◌^◌, ◌++◌, ℕ, List, [], length, refl, ap, sym, ◌∙◌, subst, arith}
 use Rattle.std.specs.Prelude.{◌==◌, Bool, Err, IsErrAnd, Ok, Result, drop, false}
 use Rattle.std.proofs.lemmas.Bool.{ne_eqb}
 use Rattle.std.specs.Io.KnownBytes.{prepend_known}
@@ -15,11 +15,10 @@ use Rattle.read_ahead.proofs.Cut.{took_at}
 use Rattle.bohm_base.specs.Collecting.{ReadsAs}
 use Rattle.bohm_base.specs.Pending.{HasBegunReport}
 use Rattle.line_io.specs.declared.fault.EngineFault.{EngineFault}
-use Rattle.engine.specs.Engine.{finished}
-use Rattle.batched_text.specs.Batching.{Deals, IsBatchReady, IsOpen, ReportsFirst}
+use Rattle.batched_text.specs.Batching.{Deals, IsBatchReady, IsOpen, ReportsFirst, next_line}
 use Rattle.batched_text.specs.Faults.{IsOfBatch}
 use Rattle.batched_text.specs.Foretold.{BeginsFrom, IsReadyAt, Runs, TakesAt, TakesFrom, log_names}
-use Rattle.batched_text.specs.declared.batching.Batching.{Batching}
+use Rattle.batched_text.specs.declared.line_run.LineRun.{LineRun}
 use Rattle.batched_text.specs.declared.buffered.Buffered.{Buffered}
 use Rattle.batched_text.specs.declared.history.Plan.{Plan}
 use Rattle.batched_text.proofs.Cutting.{dealt}
@@ -28,22 +27,22 @@ use Rattle.batched_text.proofs.LaterNames.{version-stays}
 use Rattle.batched_text.proofs.Sofar.{batched_early, batched_step, begun_batched}
 
 -- what an open batch holds lies in the log
-within_open : (plan : Plan) (batching : Batching) → IsOpen plan batching
-    → finished batching.engine ≤ length batching.engine.log.statements
-within_open plan batching room = omega (arith, room.filling.counted)
+within_open : (plan : Plan) (batching : LineRun) → IsOpen plan batching
+    → batching.reported ≤ length batching.engine.log.statements
+within_open plan batching room = omega (arith, room.filling.steady.counted)
 
 -- what is reported or waits makes a beginning of the report
-taken_begun : (bytes : List ℕ) (from to : ℕ) (old new : Batching) → TakesFrom bytes from to old new → BeginsFrom bytes from old new
+taken_begun : (bytes : List ℕ) (from to : ℕ) (old new : LineRun) → TakesFrom bytes from to old new → BeginsFrom bytes from old new
 taken_begun bytes from to old new taken = λ behind input out held so.
     begun_batched total_in input (prepend_known (drop to bytes) behind) out held _ _ _ _ _ (taken behind input out held so)
 
-pending_begun : (bytes : List ℕ) (from : ℕ) (old new : Batching) → new.pending.items ≡ old.pending.items → BeginsFrom bytes from old new
+pending_begun : (bytes : List ℕ) (from : ℕ) (old new : LineRun) → new.pending.items ≡ old.pending.items → BeginsFrom bytes from old new
 pending_begun bytes from old new same = λ behind input out held so.
     subst (HasBegunReport input out held) (sym same) (begun_batched total_in input (prepend_known (drop from bytes) behind) out held _ _ _ _ _ so)
 
 module _ (plan : Plan) (buffered : Buffered) where
   -- no line
-  pub runs_none : (from : ℕ) (batching : Batching) → from ≤ length buffered.bytes.now → IsReadyAt plan batching buffered from
+  pub runs_none : (from : ℕ) (batching : LineRun) → from ≤ length buffered.bytes.now → IsReadyAt plan batching buffered from
       → Runs plan buffered from batching batching (Ok from)
   runs_none from batching within ready = record {
     within = within;
@@ -55,7 +54,7 @@ module _ (plan : Plan) (buffered : Buffered) where
     err = tt;
   }
 
-  pub ready_start : (batching : Batching) → IsBatchReady plan batching (length buffered.bytes.now) buffered.given → 1 < batching.number
+  pub ready_start : (batching : LineRun) → IsBatchReady plan batching (length buffered.bytes.now) buffered.given → 1 < next_line batching
       → IsReadyAt plan batching buffered 0
   ready_start batching ready begun = record {
     ready = record { room = ready.room; bounded = λ left. ready.bounded (omega (arith, left)); numbered = omega (arith, ready.numbered) };
@@ -63,7 +62,7 @@ module _ (plan : Plan) (buffered : Buffered) where
   }
 
   -- memory was refused or no thread started, and what was pending is
-  pub runs_fault : (from : ℕ) (old new : Batching) (result : Result ℕ EngineFault) → new.pending.items ≡ old.pending.items
+  pub runs_fault : (from : ℕ) (old new : LineRun) (result : Result ℕ EngineFault) → new.pending.items ≡ old.pending.items
       → IsErrAnd result (IsOfBatch plan.settings.workers) → Runs plan buffered from old new result
   runs_fault from old new (Ok to) same is = absurd is
   runs_fault from old new (Err fault) same is = record {
@@ -77,20 +76,26 @@ module _ (plan : Plan) (buffered : Buffered) where
   }
 
   -- a line after the first leaves the version
-  version-dealt : (from count : ℕ) (line : List ℕ) (reading : ParsedLine) (old new : Batching) → 1 < old.number
-      → IsLineAt buffered.bytes.now from count line → ReadsAs (old.number == 1) (log_names old).version line reading
+  version-dealt : (from count : ℕ) (line : List ℕ) (reading : ParsedLine) (old new : LineRun) → 1 < next_line old
+      → IsLineAt buffered.bytes.now from count line → ReadsAs (next_line old == 1) (log_names old).version line reading
       → Deals reading old new → (log_names new).version ≡ (log_names old).version
   version-dealt from count line reading old new begun at reads deals =
-      let other : (old.number == 1) ≡ false = ne_eqb old.number 1 (λ same. omega (arith, same, begun)) in
+      let other : (next_line old == 1) ≡ false = ne_eqb (next_line old) 1 (λ same. omega (arith, same, begun)) in
       let read : IsParsedLine false (log_names old).version (first_line (drop from buffered.bytes.now ++ [])) reading =
       subst (λ (b : Bool). IsParsedLine b (log_names old).version (first_line (drop from buffered.bytes.now ++ [])) reading) other
       (reads (first_line (drop from buffered.bytes.now ++ [])) (at.first [])) in
       ap (λ (log : Accepted). log.names.version) deals.log ∙ version-with (log_names old) reading
       ∙ version-stays (log_names old).version (first_line (drop from buffered.bytes.now ++ [])) reading read
 
+  -- a line that is there can be counted
+  pub numbered_at : (from count : ℕ) (line : List ℕ) (run : LineRun) → IsReadyAt plan run buffered from → IsLineAt buffered.bytes.now from count line
+      → next_line run < 2 ^ 64
+  numbered_at from count line run ready at =
+      omega (arith, ready.ready.numbered, at.some, at.within, ready.ready.bounded (omega (arith, at.some, at.within)))
+
   -- one line, which was dealt with
-  pub runs_dealt : (from count : ℕ) (line : List ℕ) (reading : ParsedLine) (old new : Batching) → IsReadyAt plan old buffered from
-      → IsLineAt buffered.bytes.now from count line → ReadsAs (old.number == 1) (log_names old).version line reading
+  pub runs_dealt : (from count : ℕ) (line : List ℕ) (reading : ParsedLine) (old new : LineRun) → IsReadyAt plan old buffered from
+      → IsLineAt buffered.bytes.now from count line → ReadsAs (next_line old == 1) (log_names old).version line reading
       → Deals reading old new → IsOpen plan new → Runs plan buffered from old new (Ok (from + count))
   runs_dealt from count line reading old new ready at reads deals room =
       let takes : TakesFrom buffered.bytes.now from (from + count) old new =
@@ -116,13 +121,13 @@ module _ (plan : Plan) (buffered : Buffered) where
       }
 
   -- one line, which was taken, and then its batch was reported if that is full
-  pub runs_line : (from count : ℕ) (old mid new : Batching) → IsReadyAt plan old buffered from → TakesAt buffered.bytes.now from count old mid
+  pub runs_line : (from count : ℕ) (old mid new : LineRun) → IsReadyAt plan old buffered from → TakesAt buffered.bytes.now from count old mid
       → ReportsFirst plan mid new → Runs plan buffered from old new (Ok (from + count))
   runs_line from count old mid new ready taken put =
       runs_dealt from count taken.line taken.reading old new ready taken.at taken.reads (dealt plan taken.reading old mid new taken.takes put) put.room
 
   -- one run of lines, and then another
-  pub runs_then : (from at : ℕ) (old mid new : Batching) (result : Result ℕ EngineFault) → Runs plan buffered from old mid (Ok at)
+  pub runs_then : (from at : ℕ) (old mid new : LineRun) (result : Result ℕ EngineFault) → Runs plan buffered from old mid (Ok at)
       → Runs plan buffered at mid new result → Runs plan buffered from old new result
   runs_then from at old mid new (Ok to) first second = record {
     within = second.within;
@@ -144,14 +149,14 @@ module _ (plan : Plan) (buffered : Buffered) where
   }
 
   -- a fault that is passed on
-  pub runs_told : (from : ℕ) (old new : Batching) (fault : EngineFault) (result : Result ℕ EngineFault) → Runs plan buffered from old new (Err fault)
+  pub runs_told : (from : ℕ) (old new : LineRun) (fault : EngineFault) (result : Result ℕ EngineFault) → Runs plan buffered from old new (Err fault)
       → IsErrAnd result (λ other. other ≡ fault) → Runs plan buffered from old new result
   runs_told from old new fault (Ok to) runs is = absurd is
   runs_told from old new fault (Err other) runs is =
       subst (λ (f : EngineFault). Runs plan buffered from old new (Err f)) (sym is) runs
 
   -- the lines that wait are reported though their batch isn't full
-  pub runs_early : (from to : ℕ) (old mid new : Batching) → Runs plan buffered from old mid (Ok to) → ReportsFirst plan mid new
+  pub runs_early : (from to : ℕ) (old mid new : LineRun) → Runs plan buffered from old mid (Ok to) → ReportsFirst plan mid new
       → Runs plan buffered from old new (Ok to)
   runs_early from to old mid new runs put =
       let taken : TakesFrom buffered.bytes.now from to old new =
@@ -171,7 +176,7 @@ module _ (plan : Plan) (buffered : Buffered) where
         err = tt;
       }
 
-  pub runs_early_fault : (from to : ℕ) (old mid new : Batching) (result : Result ℕ EngineFault) → Runs plan buffered from old mid (Ok to)
+  pub runs_early_fault : (from to : ℕ) (old mid new : LineRun) (result : Result ℕ EngineFault) → Runs plan buffered from old mid (Ok to)
       → new.pending.items ≡ mid.pending.items → IsErrAnd result (IsOfBatch plan.settings.workers) → Runs plan buffered from old new result
   runs_early_fault from to old mid new (Ok other) runs same is = absurd is
   runs_early_fault from to old mid new (Err fault) runs same is = record {
@@ -187,7 +192,7 @@ module _ (plan : Plan) (buffered : Buffered) where
   }
 
   -- and that fault is passed on
-  pub runs_early_told : (from to : ℕ) (old mid new : Batching) (fault : EngineFault) (result : Result ℕ EngineFault) → Runs plan buffered from old mid (Ok to)
+  pub runs_early_told : (from to : ℕ) (old mid new : LineRun) (fault : EngineFault) (result : Result ℕ EngineFault) → Runs plan buffered from old mid (Ok to)
       → new.pending.items ≡ mid.pending.items → IsOfBatch plan.settings.workers fault → IsErrAnd result (λ other. other ≡ fault) → Runs plan buffered from old new result
   runs_early_told from to old mid new fault result runs same stops is =
       runs_told from old new fault result (runs_early_fault from to old mid new (Err fault) runs same stops) is

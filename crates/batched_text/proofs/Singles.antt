@@ -1,5 +1,5 @@
 -- A statement that was foretold is run as a batch of its own.
-use Rattle.std.proofs.Common.{◌≡◌, ◌<◌, ◌+◌, ◌++◌, ◌∷◌, [], ℕ, List, Some, length, refl, ap, sym, ◌∙◌, subst, arith}
+use Rattle.std.proofs.Common.{◌≡◌, ◌<◌, ◌+◌, ◌^◌, ◌++◌, ◌∷◌, [], ℕ, List, Some, length, refl, ap, sym, ◌∙◌, subst, arith}
 use Rattle.std.specs.Prelude.{slice_get}
 use Rattle.std.proofs.Math.Seq.{get_or-append_seam}
 use Rattle.std.proofs.lemmas.List.{append-nil, length-append}
@@ -13,34 +13,43 @@ use Rattle.sequencer.specs.Foretelling.{IsForetold}
 use Rattle.sequencer.specs.Log.{Accepted, with_accepted}
 use Rattle.sequencer.specs.Whole.{IsWhole}
 use Rattle.report.specs.Report.{place_text, read}
-use Rattle.bohm_base.specs.Collecting.{line_outcome}
+use Rattle.bohm_base.specs.Collecting.{line_outcome, places_in}
+use Rattle.bohm_base.specs.Places.{IsFinishedAs}
 use Rattle.bohm_base.specs.declared.collecting.LineOutcome.{LineOutcome}
 use Rattle.engine.specs.Engine.{Run, RunsNext, finished}
-use Rattle.batched_text.specs.Batching.{Deals, IsCounted, IsOpen}
-use Rattle.batched_text.specs.History.{IsCutBy, dropped_by}
-use Rattle.batched_text.specs.Places.{IsFinishedAs, places_in}
+use Rattle.batched_text.specs.Batching.{Deals, IsOpen, next_line}
+use Rattle.batched_text.specs.History.{IsCutBy, IsKeptBy}
 use Rattle.batched_text.specs.Settings.{mark_behind}
 use Rattle.batched_text.specs.Sweeping.{IsSwept}
-use Rattle.batched_text.specs.declared.batching.Batching.{Batching}
+use Rattle.batched_text.specs.declared.line_run.LineRun.{LineRun}
 use Rattle.batched_text.specs.declared.history.Cut.{Cut}
 use Rattle.batched_text.specs.declared.history.History.{History}
 use Rattle.batched_text.specs.declared.history.Plan.{Plan}
 use Rattle.batched_text.proofs.Cutting.{ends_early, limits}
+use Rattle.batched_text.proofs.Histories.{ran_all, ran_between}
 use Rattle.batched_text.proofs.ForetoldLines.{known_became, known_log}
 
--- where all that is finished is dropped, as many places are dropped as are finished
-all_dropped : (history : History) (run : Run) → history ≡ History.Dropped → run.dropped ≡ finished run → run.dropped ≡ dropped_by history run
-all_dropped history run drops dropped = subst (λ (h : History). run.dropped ≡ dropped_by h run) (sym drops) dropped
+-- where all that was reported is dropped, as many places are dropped as were reported
+all_dropped : (history : History) (reported : ℕ) (run : Run) → history ≡ History.Dropped → run.dropped ≡ reported → IsKeptBy history reported run
+all_dropped history reported run drops dropped = subst (λ (h : History). IsKeptBy h reported run) (sym drops) dropped
 
 -- where no line waits all places are finished
-pub none_waits : (plan : Plan) (batching : Batching) → IsOpen plan batching → batching.waiting.items ≡ []
-    → finished batching.engine ≡ length batching.engine.log.statements
-none_waits plan batching room none = omega (arith, room.filling.counted, ap places_in none)
+pub none_waits : (plan : Plan) (run : LineRun) → IsOpen plan run → run.waiting.items ≡ [] → finished run.engine ≡ length run.engine.log.statements
+none_waits plan run room none =
+    let between = ran_between plan.cut run room.filling.steady.ran room.filling.steady.counted in
+    omega (arith, room.filling.steady.counted, ap places_in none, between.least, between.most)
+
+-- and so were all reported, and dropped
+pub none_kept : (plan : Plan) (run : LineRun) → IsOpen plan run → plan.history ≡ History.Dropped → run.waiting.items ≡ []
+    → run.engine.dropped ≡ length run.engine.log.statements
+none_kept plan run room drops none =
+    subst (λ (h : History). IsKeptBy h run.reported run.engine) drops room.filling.steady.kept ∙ omega (arith, room.filling.steady.counted, ap places_in none)
 
 module _ (sentence : Sentence) (statement : Statement) (found : Outcome) (old run : Run) (foretold : IsForetold old.log.names sentence statement)
     (next : RunsNext sentence found old run) (all : finished old ≡ length old.log.statements) where
   -- the place is finished
-  pub finished_next : (new : Run) (place : ℕ) → new ≡ record run { store = new.store } → place ≡ finished old → IsFinishedAs new place statement found
+  pub finished_next : (new : Run) (place : ℕ) → new ≡ record run { store = new.store } → place ≡ finished old
+      → (place < finished new) × IsFinishedAs new.log place statement found
   finished_next new place rest at =
       let log : Accepted = with_accepted old.log sentence in
       let is : new.log ≡ log = ap (λ (r : Run). r.log) rest ∙ next.log in
@@ -48,25 +57,30 @@ module _ (sentence : Sentence) (statement : Statement) (found : Outcome) (old ru
       let there : slice_get log.statements (length old.log.statements) ≡ Some statement =
       slice_get_read log.statements (length log.statements) (length old.log.statements) statement refl
       (omega (arith, length-append old.log.statements (numbered old.log.names sentence ∷ [])))
-      (foretold.ok ∙ sym (get_or-append_seam old.log.statements (numbered old.log.names sentence) [] statement)) in
-      record {
-        there = ap (λ (l : Accepted). slice_get l.statements place) is ∙ ap (λ (n : ℕ). slice_get log.statements n) last ∙ there;
-        came = ap (λ (r : Run). outcome r.log.statements place) rest ∙ ap (λ (n : ℕ). outcome run.log.statements n) at ∙ next.came;
-        within = omega (arith, at, ap finished rest, next.ends);
-      }
+      (foretold.ok ∙ sym (get_or-append_seam old.log.statements (numbered old.log.names sentence) [] statement)) in (
+        omega (arith, at, ap finished rest, next.ends),
+        record {
+          there = ap (λ (l : Accepted). slice_get l.statements place) is ∙ ap (λ (n : ℕ). slice_get log.statements n) last ∙ there;
+          came = ap (λ (r : Run). outcome r.log.statements place) rest ∙ ap (λ (n : ℕ). outcome run.log.statements n) at ∙ next.came;
+        },
+      )
 
-module _ (plan : Plan) (sentence : Sentence) (statement : Statement) (found : Outcome) (old new : Batching) (run : Run) (place : ℕ)
+module _ (plan : Plan) (sentence : Sentence) (statement : Statement) (found : Outcome) (old new : LineRun) (run : Run) (place : ℕ)
     (room : IsOpen plan old) (early : plan.cut ≡ Cut.BeforeReads) (drops : plan.history ≡ History.Dropped) (none : old.waiting.items ≡ [])
     (foretold : IsForetold old.engine.log.names sentence statement) (next : RunsNext sentence found old.engine run)
     (at : place ≡ finished old.engine) (rest : new.engine ≡ record run { store = new.engine.store })
     (mark : new.engine.store.mark ≡ mark_behind plan.settings place (place + 1)) (swept : IsSwept new.engine.store) (whole : IsWhole new.engine.log)
-    (number : new.number ≡ old.number + 1) (left : new.waiting.items ≡ [])
+    (small : next_line old < 2 ^ 64) (lines : new.lines ≡ old.lines + 1) (left : new.waiting.items ≡ []) (reported : new.reported ≡ place + 1)
     (told : new.pending.items ≡ old.pending.items ++ place_text new.engine.log.statements new.engine.log.names place) where
   log-is : new.engine.log ≡ with_accepted old.engine.log sentence
   log-is = ap (λ (r : Run). r.log) rest ∙ next.log
 
   done : finished new.engine ≡ place + 1
   done = omega (arith, ap finished rest, next.ends, at)
+
+  -- the place is the next one of the log
+  before : place ≡ old.reported
+  before = omega (arith, at, none_waits plan old room none, room.filling.steady.counted, ap places_in none)
 
   counts : length new.engine.log.statements ≡ place + 1
   counts =
@@ -77,6 +91,9 @@ module _ (plan : Plan) (sentence : Sentence) (statement : Statement) (found : Ou
         none_waits plan old room none,
         length-append old.engine.log.statements (numbered old.engine.log.names sentence ∷ []),
       )
+
+  number : next_line new ≡ next_line old + 1
+  number = omega (arith, lines, ap length left, ap length none)
 
   -- its line is the only one that is reported
   line-is : old.waiting.items ++ line_outcome old.engine.log.names (read sentence) ∷ [] ≡ LineOutcome.Accepted ∷ []
@@ -91,32 +108,36 @@ module _ (plan : Plan) (sentence : Sentence) (statement : Statement) (found : Ou
     reports = record {
       out = LineOutcome.Accepted ∷ [];
       all = line-is ∙ ap (λ (ls : List LineOutcome). LineOutcome.Accepted ∷ ls) (sym left);
-      first = old.number;
+      first = next_line old;
       number = omega (arith, ap length line-is, number);
       told = told
           ∙ ap (λ (xs : List ℕ). old.pending.items ++ xs)
-          (ap (place_text new.engine.log.statements new.engine.log.names) at
-          ∙ sym (append-nil (place_text new.engine.log.statements new.engine.log.names (finished old.engine))));
-      places = omega (arith, done, at);
+          (ap (place_text new.engine.log.statements new.engine.log.names) before
+          ∙ sym (append-nil (place_text new.engine.log.statements new.engine.log.names old.reported)));
+      places = omega (arith, reported, before);
     };
   }
 
   single_room : IsOpen plan new
   single_room =
-      let some : 0 < plan.settings.batch = (limits plan.settings room.filling.within).batch_some in
+      let some : 0 < plan.settings.batch = (limits plan.settings room.filling.steady.within).batch_some in
       record {
         filling = record {
-          within = room.filling.within;
           whole = whole;
-          counted = subst (λ (ls : List LineOutcome). IsCounted new.engine ls) (sym left) (omega (arith, done, counts));
-          few = subst (λ (ls : List LineOutcome). length ls < new.number) (sym left) (omega (arith, number));
-          kept = all_dropped plan.history new.engine drops (ap (λ (r : Run). r.dropped) rest ∙ next.dropped ∙ sym (ap finished rest));
-          cut = subst (λ (cut : Cut). IsCutBy cut plan.settings new.engine) (sym early)
-              (ends_early plan.settings new.engine place (place + 1) done mark (omega (arith, some)) (omega arith));
-          swept = swept;
-          most = omega (arith, done, counts);
+          steady = record {
+            within = room.filling.steady.within;
+            counted = omega (arith, reported, counts, ap places_in left);
+            ran = ran_all plan.cut new.reported new.engine (omega (arith, reported, done)) (omega (arith, done, counts));
+            numbered = omega (arith, number, small);
+            kept = all_dropped plan.history new.reported new.engine drops
+                (omega (arith, ap (λ (r : Run). r.dropped) rest, next.dropped, ap finished rest, done, reported));
+            cut = subst (λ (cut : Cut). IsCutBy cut plan.settings new.engine) (sym early)
+                (ends_early plan.settings new.engine place (place + 1) done mark (omega (arith, some)) (omega arith));
+            swept = swept;
+            most = omega (arith, reported, counts);
+          };
         };
-        less = omega (arith, done, counts, some);
+        less = omega (arith, reported, counts, some);
       }
 
   -- so the line was dealt with, and a further one has room

@@ -13,21 +13,20 @@ use Rattle.report.specs.Report.{IsParsedLine, IsReport, ParsedLine, accepted, lo
 use Rattle.report.proofs.ReportLemmas.{log_of-append, names_after-append}
 use Rattle.report.proofs.Readings.{IsTotal, readings_from}
 use Rattle.bohm_base.specs.declared.collecting.LineOutcome.{LineOutcome}
-use Rattle.bohm_base.specs.Collecting.{IsLogOf, ReadsAs, line_outcomes, line_outcome, log_text, report_text, with_reading}
+use Rattle.bohm_base.specs.Collecting.{IsLogOf, ReadsAs, line_outcome, line_outcomes, log_text, places_in, report_text, with_reading}
 use Rattle.bohm_base.proofs.Logs.{log_step, report_is}
 use Rattle.bohm_base.specs.Pending.{HasBegunReport}
-use Rattle.engine.specs.Engine.{finished}
-use Rattle.batched_text.specs.Batching.{Batched, BatchedUpTo, Deals, ReportsLines, lines_text}
-use Rattle.batched_text.specs.declared.batching.Batching.{Batching}
-use Rattle.batched_text.specs.Places.{places_in}
+use Rattle.batched_text.specs.Batching.{Batched, BatchedUpTo, Deals, ReportsLines, lines_text, next_line}
+use Rattle.batched_text.specs.declared.line_run.LineRun.{LineRun}
 use Rattle.batched_text.proofs.Ends.{IsReadAfter, read_before, read_step}
 use Rattle.batched_text.proofs.LaterNames.{begins_after, stays_or_none}
-use Rattle.batched_text.proofs.Reports.{longer, parts}
+use Rattle.bohm_base.proofs.Beginnings.{parts}
+use Rattle.batched_text.proofs.Reports.{longer}
 
--- the log is one that was taken, and what is finished lies in it
-pub record IsWithin (batching : Batching) : Type 0 where
+-- the log is one that was taken, and what was reported lies in it
+pub record IsWithin (batching : LineRun) : Type 0 where
   pub whole : IsWhole batching.engine.log
-  pub within : finished batching.engine ≤ length batching.engine.log.statements
+  pub within : batching.reported ≤ length batching.engine.log.statements
 
 pub places-append : (xs ys : List LineOutcome) → places_in (xs ++ ys) ≡ places_in xs + places_in ys
 places-append [] ys = omega arith
@@ -201,29 +200,29 @@ batched_reported (Some xs) (Some ys) o n log done_old done_new lines waiting nex
     )
 
 -- one more line was dealt with
-pub batched_step : (i j k o n : Option (List ℕ)) (line : List ℕ) (reading : ParsedLine) (old new : Batching)
-    → BatchedUpTo i j o n old → TookLine j k [] line × HadSome j → ReadsAs (old.number == 1) old.engine.log.names.version line reading
-    → Deals reading old new → finished old.engine ≤ length old.engine.log.statements
+pub batched_step : (i j k o n : Option (List ℕ)) (line : List ℕ) (reading : ParsedLine) (old new : LineRun)
+    → BatchedUpTo i j o n old → TookLine j k [] line × HadSome j → ReadsAs (next_line old == 1) old.engine.log.names.version line reading
+    → Deals reading old new → old.reported ≤ length old.engine.log.statements
     → IsWithin new → BatchedUpTo i k o n new
 batched_step i j k o n line reading old new so took reads deals before within =
     let log : Accepted = old.engine.log in
     let lines : List LineOutcome = old.waiting.items ++ line_outcome log.names reading ∷ [] in
     let longer : length new.engine.log.statements ≡ length log.statements + length (accepted log.names reading) =
     ap (λ (l : Accepted). length l.statements) deals.log ∙ length-append log.statements (accepted log.names reading) in
-    let taken : Batched i k o n old.pending.items new.engine.log (finished old.engine) lines (old.number + 1) =
-    batched_taken i j k o n old.pending.items line reading log new.engine.log (finished old.engine) old.waiting.items old.number so took reads deals.log within.whole
+    let taken : Batched i k o n old.pending.items new.engine.log old.reported lines ((next_line old) + 1) =
+    batched_taken i j k o n old.pending.items line reading log new.engine.log old.reported old.waiting.items (next_line old) so took reads deals.log within.whole
     (omega (arith, before, longer)) in
-    batched_reported i k o n new.engine.log (finished old.engine) (finished new.engine) lines new.waiting.items new.number old.pending.items new.pending.items
-    (subst (λ (m : ℕ). Batched i k o n old.pending.items new.engine.log (finished old.engine) lines m) (sym deals.number) taken)
+    batched_reported i k o n new.engine.log old.reported new.reported lines new.waiting.items (next_line new) old.pending.items new.pending.items
+    (subst (λ (m : ℕ). Batched i k o n old.pending.items new.engine.log old.reported lines m) (sym deals.number) taken)
     deals.reports within.within
 
 -- the lines that waited were reported, and no other was taken
-pub batched_early : (i j o n : Option (List ℕ)) (old new : Batching) → BatchedUpTo i j o n old → new.engine.log ≡ old.engine.log → new.number ≡ old.number
-    → ReportsLines old.engine.log (finished old.engine) (finished new.engine) old.waiting.items new.waiting.items old.number old.pending.items new.pending.items
+pub batched_early : (i j o n : Option (List ℕ)) (old new : LineRun) → BatchedUpTo i j o n old → new.engine.log ≡ old.engine.log → next_line new ≡ next_line old
+    → ReportsLines old.engine.log old.reported new.reported old.waiting.items new.waiting.items (next_line old) old.pending.items new.pending.items
     → IsWithin new → BatchedUpTo i j o n new
 batched_early i j o n old new so log number reports within =
-    let P : Accepted → Type 0 = λ l. Batched i j o n new.pending.items l (finished new.engine) new.waiting.items new.number in
-    let Q : ℕ → Type 0 = λ m. Batched i j o n new.pending.items old.engine.log (finished new.engine) new.waiting.items m in
+    let P : Accepted → Type 0 = λ l. Batched i j o n new.pending.items l new.reported new.waiting.items (next_line new) in
+    let Q : ℕ → Type 0 = λ m. Batched i j o n new.pending.items old.engine.log new.reported new.waiting.items m in
     subst P (sym log) (subst Q (sym number)
-    (batched_reported i j o n old.engine.log (finished old.engine) (finished new.engine) old.waiting.items new.waiting.items old.number old.pending.items new.pending.items so reports
+    (batched_reported i j o n old.engine.log old.reported new.reported old.waiting.items new.waiting.items (next_line old) old.pending.items new.pending.items so reports
     (omega (arith, within.within, ap (λ (l : Accepted). length l.statements) log))))

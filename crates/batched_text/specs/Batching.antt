@@ -1,37 +1,51 @@
 -- A text that is read, run and reported in batches.
-use Rattle.std.specs.Prelude.{◌≡◌, ◌≤◌, ◌<◌, ◌+◌, ◌-◌, ◌++◌, ◌∷◌, [], ⊤, ℕ, Bool, true, false, IfSome, Result, Ok, List, Option, Some, None, length, nat_lt, if◌then◌else◌}
+use Rattle.std.specs.Prelude.{◌≡◌, ◌≤◌, ◌<◌, ◌+◌, ◌^◌, ◌++◌, ◌∷◌, [], ⊤, ℕ, Bool, true, false, IfSome, Result, Ok, List, Option, Some, None, length, nat_lt, if◌then◌else◌}
 use Rattle.std.specs.Io.KnownBytes.{Appends, Consumes, prepend_known}
 use Rattle.line_io.specs.declared.limits.TheConstants.{BUFFER_BYTES, MOST_GIVEN_BYTES}
 use Rattle.report.specs.Report.{ParsedLine}
 use Rattle.sequencer.specs.Log.{Accepted, empty_log}
 use Rattle.sequencer.specs.Whole.{IsWhole}
-use Rattle.bohm_base.specs.Collecting.{Collects, IsLogOf, AreReadBefore, line_outcome, report_text, with_reading}
+use Rattle.bohm_base.specs.Collecting.{AreReadBefore, Collects, IsLogOf, line_outcome, places_in, report_text, with_reading}
 use Rattle.bohm_base.specs.Pending.{HasBegunReport, ReportsInput, WritesBegunReport}
 use Rattle.bohm_base.specs.declared.collecting.LineOutcome.{LineOutcome}
 use Rattle.line_io.specs.declared.fault.EngineFault.{EngineFault}
 use Rattle.engine.specs.Engine.{Run, finished}
 use Rattle.batched_text.specs.Faults.{IsOfBatch}
-use Rattle.batched_text.specs.Places.{places_in}
-use Rattle.batched_text.specs.History.{IsCutBy, IsTrimmedBy, dropped_by}
+use Rattle.batched_text.specs.History.{IsCutBy, IsKeptBy, IsRanTo, IsTrimmedBy}
 use Rattle.batched_text.specs.ReadBytes.{IfRead}
 use Rattle.batched_text.specs.Settings.{are_within_limits, mark_behind}
 use Rattle.batched_text.specs.Sweeping.{IsSwept}
-use Rattle.batched_text.specs.declared.batching.Batching.{Batching}
+use Rattle.batched_text.specs.declared.line_run.LineRun.{LineRun}
 use Rattle.batched_text.specs.declared.history.Plan.{Plan}
+use Rattle.batched_text.specs.declared.settings.Settings.{Settings}
 
 -- the report's lines for some lines from this number on, the first of which with a place has this one
 abbrev pub lines_text : Accepted → ℕ → ℕ → List LineOutcome → List ℕ
 lines_text log number place lines = report_text log.statements log.names number place lines
 
--- the waiting lines have the places that aren't finished
-abbrev pub IsCounted : Run → List LineOutcome → Type 0
-IsCounted run lines = finished run + places_in lines ≡ length run.log.statements
+-- the number of the next line
+abbrev pub next_line : LineRun → ℕ
+next_line run = run.lines + length run.waiting.items + 1
+
+-- the waiting lines have the places that weren't reported
+abbrev pub IsCounted : LineRun → Type 0
+IsCounted run = run.reported + places_in run.waiting.items ≡ length run.engine.log.statements
 
 -- a line that was read so was taken, and no line of the report was made since
-pub record Takes (reading : ParsedLine) (old new : Batching) : Type 0 where
+pub record Takes (reading : ParsedLine) (old new : LineRun) : Type 0 where
   pub engine : new.engine ≡ record old.engine { log = with_reading old.engine.log reading }
   pub waiting : new.waiting.items ≡ old.waiting.items ++ line_outcome old.engine.log.names reading ∷ []
-  pub number : new.number ≡ old.number + 1
+  pub lines : new.lines ≡ old.lines
+  pub reported : new.reported ≡ old.reported
+  pub pending : new.pending.items ≡ old.pending.items
+  pub whole : IsWhole new.engine.log
+
+-- no line was taken or reported
+pub record TakesNothing (old new : LineRun) : Type 0 where
+  pub engine : new.engine ≡ old.engine
+  pub waiting : new.waiting.items ≡ old.waiting.items
+  pub lines : new.lines ≡ old.lines
+  pub reported : new.reported ≡ old.reported
   pub pending : new.pending.items ≡ old.pending.items
 
 -- of some lines, of which the last has the number before this one, the first were reported after what was pending, and the others wait
@@ -45,81 +59,102 @@ pub record ReportsLines (log : Accepted) (done_old done_new : ℕ) (lines waitin
   pub places : done_new ≡ done_old + places_in out
 
 -- a line that was read so was dealt with: it waits for the end of its batch, or its batch was run and is reported
-pub record Deals (reading : ParsedLine) (old new : Batching) : Type 0 where
+pub record Deals (reading : ParsedLine) (old new : LineRun) : Type 0 where
   pub log : new.engine.log ≡ with_reading old.engine.log reading
-  pub number : new.number ≡ old.number + 1
+  pub number : next_line new ≡ next_line old + 1
   pub reports :
-      ReportsLines new.engine.log (finished old.engine) (finished new.engine) (old.waiting.items
+      ReportsLines new.engine.log old.reported new.reported (old.waiting.items
       ++ line_outcome old.engine.log.names reading ∷ [])
-      new.waiting.items new.number old.pending.items new.pending.items
+      new.waiting.items (next_line new) old.pending.items new.pending.items
 
 -- the lines that wait are counted, what is finished is kept or dropped as it is to be, the batches that are finished are full, but
 -- where they may end early, no rows are kept but those that are to be, and the next batch isn't larger than one may be
-pub record IsFilling (plan : Plan) (batching : Batching) : Type 0 where
+pub record IsSteady (plan : Plan) (run : LineRun) : Type 0 where
   pub within : are_within_limits plan.settings ≡ true
-  pub whole : IsWhole batching.engine.log
-  pub counted : IsCounted batching.engine batching.waiting.items
-  pub few : length batching.waiting.items < batching.number
-  pub kept : batching.engine.dropped ≡ dropped_by plan.history batching.engine
-  pub cut : IsCutBy plan.cut plan.settings batching.engine
-  pub swept : IsSwept batching.engine.store
-  pub most : length batching.engine.log.statements ≤ finished batching.engine + plan.settings.batch
+  pub counted : IsCounted run
+  pub ran : IsRanTo plan.cut run.reported run.engine
+  pub numbered : next_line run ≤ 2 ^ 64
+  pub kept : IsKeptBy plan.history run.reported run.engine
+  pub cut : IsCutBy plan.cut plan.settings run.engine
+  pub swept : IsSwept run.engine.store
+  pub most : length run.engine.log.statements ≤ run.reported + plan.settings.batch
 
--- and it is smaller
-pub record IsOpen (plan : Plan) (batching : Batching) : Type 0 where
-  pub filling : IsFilling plan batching
-  pub less : length batching.engine.log.statements < finished batching.engine + plan.settings.batch
+-- and the log is one that was taken
+pub record IsFilling (plan : Plan) (run : LineRun) : Type 0 where
+  pub whole : IsWhole run.engine.log
+  pub steady : IsSteady plan run
+
+-- the next batch has room for a line
+abbrev pub HasRoomForLine : Plan → LineRun → Type 0
+HasRoomForLine plan run = length run.engine.log.statements < run.reported + plan.settings.batch
+
+-- so it is, and a further line has room
+pub record IsOpen (plan : Plan) (run : LineRun) : Type 0 where
+  pub filling : IsFilling plan run
+  pub less : HasRoomForLine plan run
 
 -- the first of the lines that waited were reported after what was pending, the others wait, and a further line has room
-pub record ReportsFirst (plan : Plan) (old new : Batching) : Type 0 where
+pub record ReportsFirst (plan : Plan) (old new : LineRun) : Type 0 where
   pub log : new.engine.log ≡ old.engine.log
-  pub number : new.number ≡ old.number
+  pub number : next_line new ≡ next_line old
   pub lines :
-      ReportsLines old.engine.log (finished old.engine) (finished new.engine) old.waiting.items new.waiting.items
-      old.number old.pending.items new.pending.items
+      ReportsLines old.engine.log old.reported new.reported old.waiting.items new.waiting.items
+      (next_line old) old.pending.items new.pending.items
   pub room : IsOpen plan new
 
--- all lines that waited were reported after what was pending: their places were run as a batch, the rows trimmed and swept after it if it
--- has a place, and what is finished is kept or dropped as it is to be
-pub record ReportsAll (plan : Plan) (old new : Batching) : Type 0 where
-  pub log : new.engine.log ≡ old.engine.log
-  pub number : new.number ≡ old.number
+-- the places that waited were run as a batch, the rows trimmed and swept after it if it has a place
+pub record RunsBatch (settings : Settings) (old new : Run) : Type 0 where
+  pub log : new.log ≡ old.log
+  pub all : finished new ≡ length old.log.statements
+  pub mark : new.store.mark
+      ≡ (if nat_lt (finished old) (length old.log.statements)
+      then mark_behind settings (finished old) (length old.log.statements)
+      else old.store.mark)
+  pub swept : IsSwept new.store
+
+-- all lines that waited were reported after what was pending: their places were run as a batch, and what is finished is kept or dropped as
+-- it is to be
+pub record ReportsAll (plan : Plan) (old new : LineRun) : Type 0 where
+  pub ran : RunsBatch plan.settings old.engine new.engine
+  pub lines : new.lines ≡ old.lines + length old.waiting.items
   pub left : new.waiting.items ≡ []
-  pub told :
-      new.pending.items ≡ old.pending.items
-      ++ lines_text old.engine.log (old.number - length old.waiting.items) (finished old.engine) old.waiting.items
-  pub all : finished new.engine ≡ length old.engine.log.statements
-  pub mark : new.engine.store.mark
-      ≡ (if nat_lt (finished old.engine) (length old.engine.log.statements)
-      then mark_behind plan.settings (finished old.engine) (length old.engine.log.statements)
-      else old.engine.store.mark)
-  pub swept : IsSwept new.engine.store
-  pub kept : new.engine.dropped ≡ dropped_by plan.history new.engine
+  pub told : new.pending.items ≡ old.pending.items ++ lines_text old.engine.log (old.lines + 1) old.reported old.waiting.items
+  pub reported : new.reported ≡ length old.engine.log.statements
+  pub kept : IsKeptBy plan.history new.reported new.engine
+
+-- neither the log nor the lines that wait have changed, and none was reported
+pub record KeepsLines (old new : LineRun) : Type 0 where
+  pub log : new.engine.log ≡ old.engine.log
+  pub waiting : new.waiting.items ≡ old.waiting.items
+  pub lines : new.lines ≡ old.lines
+  pub reported : new.reported ≡ old.reported
 
 -- a fault of a batch, after which what was pending is
-abbrev pub IsFaultOfBatch : Plan → Batching → Batching → EngineFault → Type 0
-IsFaultOfBatch plan old new fault = IsOfBatch plan.settings.workers fault × (new.pending.items ≡ old.pending.items)
+pub record IsFaultOfBatch (plan : Plan) (old new : LineRun) (fault : EngineFault) : Type 0 where
+  pub stops : IsOfBatch plan.settings.workers fault
+  pub pending : new.pending.items ≡ old.pending.items
 
 -- no line was taken yet
-pub record IsFresh (batching : Batching) : Type 0 where
-  pub log : batching.engine.log ≡ empty_log
-  pub whole : IsWhole batching.engine.log
-  pub none : finished batching.engine ≡ 0
-  pub mark : batching.engine.store.mark ≡ 0
-  pub kept : batching.engine.dropped ≡ 0
-  pub nobody : batching.waiting.items ≡ []
-  pub number : batching.number ≡ 1
-  pub nothing : batching.pending.items ≡ []
+pub record IsFresh (run : LineRun) : Type 0 where
+  pub log : run.engine.log ≡ empty_log
+  pub whole : IsWhole run.engine.log
+  pub none : finished run.engine ≡ 0
+  pub mark : run.engine.store.mark ≡ 0
+  pub kept : run.engine.dropped ≡ 0
+  pub nobody : run.waiting.items ≡ []
+  pub lines : run.lines ≡ 0
+  pub reported : run.reported ≡ 0
+  pub nothing : run.pending.items ≡ []
 
 -- nor is a setting outside its limits
-abbrev pub IsBeginning : Plan → Batching → Type 0
-IsBeginning plan batching = (are_within_limits plan.settings ≡ true) × IsFresh batching
+abbrev pub IsBeginning : Plan → LineRun → Type 0
+IsBeginning plan run = (are_within_limits plan.settings ≡ true) × IsFresh run
 
 -- a further line can be dealt with
-pub record IsBatchReady (plan : Plan) (batching : Batching) (ahead given : ℕ) : Type 0 where
-  pub room : IsOpen plan batching
+pub record IsBatchReady (plan : Plan) (run : LineRun) (ahead given : ℕ) : Type 0 where
+  pub room : IsOpen plan run
   pub bounded : 0 < ahead → given ≤ MOST_GIVEN_BYTES + BUFFER_BYTES
-  pub numbered : batching.number + ahead ≤ given + 1
+  pub numbered : next_line run + ahead ≤ given + 1
 
 -- the lines of the input before what is still to come are read so, wherever after them it ends
 pub record AreReadFirst (input rest : List ℕ) (earlier : List ParsedLine) : Type 0 where
@@ -155,41 +190,40 @@ pub record BatchedStanding : Type 0 where
   pub ahead : ℕ
   pub given : ℕ
   pub out : Option (List ℕ)
-  pub batching : Batching
+  pub run : LineRun
 
 -- so it does where some bytes are ahead and others are still to be read
-abbrev pub standing_at : List ℕ → Option (List ℕ) → ℕ → Option (List ℕ) → Batching → BatchedStanding
-standing_at ahead remaining given out batching = record {
+abbrev pub standing_at : List ℕ → Option (List ℕ) → ℕ → Option (List ℕ) → LineRun → BatchedStanding
+standing_at ahead remaining given out run = record {
   rest = prepend_known ahead remaining;
   left = remaining;
   ahead = length ahead;
   given = given;
   out = out;
-  batching = batching;
+  run = run;
 }
 
 -- the lines of the input up to where it is now are reported or wait, the end of the report still pending
-abbrev pub BatchedUpTo : Option (List ℕ) → Option (List ℕ) → Option (List ℕ) → Option (List ℕ) → Batching → Type 0
-BatchedUpTo input rest out out_now batching =
-    Batched input rest out out_now batching.pending.items batching.engine.log
-    (finished batching.engine) batching.waiting.items batching.number
+abbrev pub BatchedUpTo : Option (List ℕ) → Option (List ℕ) → Option (List ℕ) → Option (List ℕ) → LineRun → Type 0
+BatchedUpTo input rest out out_now run =
+    Batched input rest out out_now run.pending.items run.engine.log run.reported run.waiting.items (next_line run)
 
 -- so it is where the run is
 abbrev pub BatchedTo : Option (List ℕ) → Option (List ℕ) → BatchedStanding → Type 0
-BatchedTo input out now = BatchedUpTo input now.rest out now.out now.batching
+BatchedTo input out now = BatchedUpTo input now.rest out now.out now.run
 
 -- one more line was taken, and further ones perhaps
 pub record TakesBatchedLine (plan : Plan) (old new : BatchedStanding) : Type 0 where
-  pub ready : IsBatchReady plan new.batching new.ahead new.given
-  pub begun : 1 < new.batching.number
+  pub ready : IsBatchReady plan new.run new.ahead new.given
+  pub begun : 1 < next_line new.run
   pub forward : old.given + new.ahead < new.given + old.ahead
   pub most : new.given ≤ MOST_GIVEN_BYTES + BUFFER_BYTES
   pub batched : (input out : Option (List ℕ)) → BatchedTo input out old → BatchedTo input out new
 
 -- all of the input was read, and all lines of it are reported or wait
-abbrev pub Gathers : Option (List ℕ) → Option (List ℕ) → Option (List ℕ) → Option (List ℕ) → Batching → Type 0
-Gathers input left out_old out_now batching =
-    IfSome input (λ bytes. Consumes input left bytes × BatchedUpTo input (Some []) out_old out_now batching)
+abbrev pub Gathers : Option (List ℕ) → Option (List ℕ) → Option (List ℕ) → Option (List ℕ) → LineRun → Type 0
+Gathers input left out_old out_now run =
+    IfSome input (λ bytes. Consumes input left bytes × BatchedUpTo input (Some []) out_old out_now run)
 
 -- after what the writer held comes a beginning of the report of what was read, the end of it still pending
 abbrev pub HasBegunReportOfRead : Option (List ℕ) → Option (List ℕ) → Option (List ℕ) → Option (List ℕ) → List ℕ → Type 0
@@ -208,11 +242,11 @@ ReportsRead input left old now result = ReportsInput input old now result × Wri
 pub record BatchedTurn (plan : Plan) (result : Result Bool EngineFault)
     (old new : BatchedStanding) : Type 0 where
   pub taken : result ≡ Ok true → TakesBatchedLine plan old new
-  pub room : result ≡ Ok false → IsOpen plan new.batching
-  pub ended : result ≡ Ok false → (input out : Option (List ℕ)) → BatchedTo input out old → Gathers input new.left out new.out new.batching
-  pub begun : (input out : Option (List ℕ)) → BatchedTo input out old → HasBegunReport input out new.out new.batching.pending.items
+  pub room : result ≡ Ok false → IsOpen plan new.run
+  pub ended : result ≡ Ok false → (input out : Option (List ℕ)) → BatchedTo input out old → Gathers input new.left out new.out new.run
+  pub begun : (input out : Option (List ℕ)) → BatchedTo input out old → HasBegunReport input out new.out new.run.pending.items
   pub begun_read : (input out : Option (List ℕ)) → BatchedTo input out old
-      → HasBegunReportOfRead input new.left out new.out new.batching.pending.items
+      → HasBegunReportOfRead input new.left out new.out new.run.pending.items
 
 -- the log is that of the input
 abbrev pub IsLogOfText : Option (List ℕ) → Accepted → Type 0
@@ -226,4 +260,4 @@ pub record HasRunText (plan : Plan) (input : Option (List ℕ)) (run : Run) : Ty
   pub all : finished run ≡ length run.log.statements
   pub trimmed : IsTrimmedBy plan.cut plan.settings run
   pub swept : IsSwept run.store
-  pub kept : run.dropped ≡ dropped_by plan.history run
+  pub kept : IsKeptBy plan.history (finished run) run

@@ -1,10 +1,8 @@
 pub mod Settings
 pub mod History
 pub mod Sweeping
-pub mod Places
 pub mod ReadBytes
 pub mod Batching
 pub mod Reaching
 pub mod Faults
 pub mod Foretold
-pub mod LineRead

@@ -15,6 +15,10 @@ are_within_limits settings =
     && (nat_le 1 settings.batch && nat_le settings.batch MOST_BATCH_STATEMENTS)
     && nat_le settings.keep MOST_KEPT_BATCHES
 
+-- one worker runs batches of this size in order, and no rows before them are kept
+abbrev pub in_order : ℕ → Settings
+in_order batch = record { workers = 1; partitions = 1; batch = batch; keep = 0 }
+
 -- the mark once a batch is finished that has these places: the start of the batch this many from the last one, or its end where none is
 -- kept
 abbrev pub mark_behind : Settings → ℕ → ℕ → ℕ

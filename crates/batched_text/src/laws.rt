@@ -6,9 +6,8 @@ ghost use Rattle.sequencer.specs.Catalog.{Names};
 ghost use Rattle.sequencer.specs.Foretelling.{Begins};
 ghost use Rattle.sequencer.specs.Log.{Accepted};
 ghost use Rattle.sequencer.specs.Whole.{IsWhole};
-ghost use Rattle.bohm_base.specs.Collecting.{report_text};
+ghost use Rattle.bohm_base.specs.Collecting.{places_in, report_text};
 ghost use Rattle.bohm_base.specs.declared.collecting.LineOutcome.{LineOutcome};
-ghost use Rattle.batched_text.specs.Places.{places_in};
 
 /// The report's lines for lines whose places a log has are the same when more statements and more names come after it, in the same version;
 /// and the lines of a report in two parts are those of the one and then those of the other.

@@ -1,21 +1,24 @@
 //! By what lines are read before their turn.
 
-ghost use Rattle.std.specs.Prelude.{◌≡◌, ◌≤◌, OnOk};
-ghost use Rattle.sequencer.specs.Catalog.{no_names};
+ghost use Rattle.std.specs.Prelude.{◌≡◌, ◌≤◌, ⊤, [], IfOk, OnOk};
+ghost use Rattle.std.specs.Thread.{IsSync};
+ghost use Rattle.line_io.specs.Ahead.{ahead};
+ghost use Rattle.sequencer.specs.Catalog.{Names, no_names};
 ghost use Rattle.sequencer.specs.Foretelling.{Begins};
 ghost use Rattle.batched_text.specs.Foretold.{IsReadyAt, Runs, log_names};
 
-use crate::batching::Batching;
 use crate::buffered::Buffered;
 use crate::foretold::report_until;
-use crate::runner::Runner;
+use crate::line_run::LineRun;
+use crate::runner::{Alone, Executor, Runner};
 use crate::stretches::{Extent, Ran, run_ahead};
 use bohm_base::EngineFault;
+use line_io::LineReader;
 use log_text::LineBuffers;
 use model_base::HashSeed;
 use read_ahead::Piece;
 use sequencer::Catalog;
-use std::alloc::Global;
+use std::alloc::{AllocError, Global};
 use std::marker::Brand;
 use std::mem;
 use std::sync::Wait;
@@ -49,9 +52,60 @@ impl ReadingAhead {
     }
 }
 
-/// What reading lines before their turn goes by: the names of an earlier line, and how much is read.
+/// Who deals with whole lines that are buffered. It goes by names of earlier lines.
+pub(crate) trait Dealer<E: Executor> {
+    ghost names: { Self → Names };
+
+    ghost may_deal: { Self → Type 0 };
+
+    /// A reader of lines that buffers as much as is dealt with at once.
+    fn reader(&self, alloc: Global) -> Result<LineReader, AllocError>
+        ensures { IfOk result (λ lines. ahead lines ≡ []) };
+
+    /// Deals with whole lines at the front of the bytes, and returns how many bytes those lines are.
+    fn deal_at_hand(
+        &mut self,
+        runner: &Runner<E>,
+        run: &mut LineRun,
+        buffered: &Buffered,
+    ) -> Result<usize, EngineFault>
+        requires may_deal { may_deal self.old }
+        requires may_run { E.may_run runner.now.executor.now runner.now.plan.settings.workers }
+        requires begins { Begins (names self.old) (log_names run.old) }
+        requires ready { IsReadyAt runner.now.plan run.old buffered.now 0 }
+        ensures runs { Runs runner.now.plan buffered.now 0 run.old run.new result }
+        ensures names { OnOk result (Begins (names self.new) (log_names run.new)) }
+        ensures may_deal { OnOk result (may_deal self.new) };
+}
+
+/// Each line is read in its turn.
 #[derive(Drop)]
-pub(crate) struct Lookahead {
+pub(crate) struct InTurn;
+
+impl<E: Executor> Dealer<E> for InTurn {
+    ghost names = { λ turn. no_names };
+
+    ghost may_deal = { λ turn. ⊤ };
+
+    fn reader(&self, alloc: Global) -> Result<LineReader, AllocError> {
+        LineReader::new(alloc)
+    }
+
+    fn deal_at_hand(
+        &mut self,
+        runner: &Runner<E>,
+        run: &mut LineRun,
+        buffered: &Buffered,
+    ) -> Result<usize, EngineFault> {
+        let mut raw = LineBuffers::new(runner.alloc);
+        report_until(runner, run, buffered, 0, buffered.bytes.len(), &mut raw)
+    }
+}
+
+/// Lines are read before their turn by further threads. What that goes by: the names of an earlier line, and how much is read.
+#[derive(Drop)]
+pub(crate) struct Lookahead<'r, T> {
+    rt: &'r T,
     pub(crate) names: Catalog,
     ahead: ReadingAhead,
     /// Bytes that the next stretch has at most.
@@ -60,12 +114,13 @@ pub(crate) struct Lookahead {
     spare: Vec<Piece>,
 }
 
-impl Lookahead {
+impl<'r, T> Lookahead<'r, T> {
     /// No names yet. They are found under this seed. It doesn't allocate.
-    pub(crate) fn seeded(alloc: Global, ahead: ReadingAhead, seed: HashSeed) -> Self
+    pub(crate) fn seeded(rt: &'r T, alloc: Global, ahead: ReadingAhead, seed: HashSeed) -> Self
         ensures { result.names ≡ no_names }
     {
         Lookahead {
+            rt,
             names: Catalog::seeded(alloc, seed),
             ahead,
             stretch: FIRST_STRETCH_BYTES.min(ahead.stretch),
@@ -103,43 +158,50 @@ impl Lookahead {
     }
 }
 
-/// Deals with whole lines at the front of the bytes: a stretch of them, with lines read before their turn in the version of the log, where
-/// threads are to do so and it pays, and otherwise all of them, which share one room. It returns how many bytes those lines are.
-pub(crate) fn deal_at_hand<T: Threads + Wait + Sync>(
-    runner: &Runner<T>,
-    lookahead: &mut Lookahead,
-    batching: &mut Batching,
-    buffered: &Buffered,
-) -> Result<usize, EngineFault>
-    requires begins { Begins lookahead.old.names (log_names batching.old) }
-    requires ready { IsReadyAt runner.now.plan batching.old buffered.now 0 }
-    ensures runs { Runs runner.now.plan buffered.now 0 batching.old batching.new result }
-    ensures names { OnOk result (Begins lookahead.new.names (log_names batching.new)) }
-{
-    let len = buffered.bytes.len();
-    if !lookahead.is_for(len) {
-        let mut raw = LineBuffers::new(runner.alloc);
-        return report_until(runner, batching, buffered, 0, len, &mut raw);
+impl<T: Threads + Wait + Sync> Dealer<Alone> for Lookahead<'_, T> {
+    ghost names = { λ lookahead. lookahead.names };
+
+    ghost may_deal = { λ lookahead. IsSync T.row };
+
+    fn reader(&self, alloc: Global) -> Result<LineReader, AllocError> {
+        LineReader::growing(alloc)
     }
-    let version = batching.engine.log().catalog().version();
-    lookahead.names.set_version(version);
-    let to = lookahead.next_stretch(len);
-    let extent = Extent {
-        to,
-        pieces: lookahead.pieces_of(to),
-        threads: lookahead.ahead.threads,
-    };
-    let spare = mem::replace(&mut lookahead.spare, Vec::new(runner.alloc));
-    let before = mem::replace(batching, Batching::new(runner.alloc));
-    let names = &lookahead.names;
-    let (ran, spare) = run_ahead::<Brand, T>(runner, before, names, buffered, &extent, spare);
-    lookahead.spare = spare;
-    let Ran {
-        batching: after,
-        result,
-    } = ran;
-    *batching = after;
-    let taken = result?;
-    lookahead.learn(batching.engine.log().catalog());
-    Ok(taken)
+
+    fn deal_at_hand(
+        &mut self,
+        runner: &Runner<Alone>,
+        run: &mut LineRun,
+        buffered: &Buffered,
+    ) -> Result<usize, EngineFault> {
+        let len = buffered.bytes.len();
+        if !self.is_for(len) {
+            let mut raw = LineBuffers::new(runner.alloc);
+            return report_until(runner, run, buffered, 0, len, &mut raw);
+        }
+        let version = run.engine.log().catalog().version();
+        self.names.set_version(version);
+        let to = self.next_stretch(len);
+        let extent = Extent {
+            to,
+            pieces: self.pieces_of(to),
+            threads: self.ahead.threads,
+        };
+        let spare = mem::replace(&mut self.spare, Vec::new(runner.alloc));
+        let before = mem::replace(run, LineRun::seeded(runner.alloc, HashSeed::fixed()));
+        let (ran, spare) = run_ahead::<Brand, T>(
+            self.rt,
+            runner,
+            before,
+            &self.names,
+            buffered,
+            &extent,
+            spare,
+        );
+        self.spare = spare;
+        let Ran { run: after, result } = ran;
+        *run = after;
+        let taken = result?;
+        self.learn(run.engine.log().catalog());
+        Ok(taken)
+    }
 }

@@ -1,21 +1,44 @@
 //! A log that is read and run up to a place, and of which no report is made.
 
-ghost use Rattle.std.specs.Prelude.{◌≡◌, ◌<◌, ◌≤◌, ◌+◌, ◌⊎◌, ℕ, [], Err, IfOk, IfSome, List, MatchBool, Ok, OnOk, Option, false, length, true};
+ghost use Rattle.std.specs.Prelude.{◌≡◌, ◌<◌, ◌≤◌, ◌+◌, ◌⊎◌, ℕ, [], Err, IfErr, IfOk, IfSome, List, MatchBool, Ok, OnOk, Option, false, length, true};
 ghost use Rattle.std.specs.Io.KnownBytes.{prepend_known};
 ghost use Rattle.line_io.specs.Ahead.{ahead};
+ghost use Rattle.line_io.specs.Faults.{IsOfReading};
 ghost use Rattle.line_io.specs.Known.{raised};
+ghost use Rattle.report.specs.Report.{ParsedLine};
 ghost use Rattle.sequencer.specs.Log.{empty_log};
 ghost use Rattle.sequencer.specs.Whole.{IsWhole};
+ghost use Rattle.bohm_base.specs.Collecting.{ReadsAs, with_reading};
 ghost use Rattle.engine.specs.Engine.{finished};
 ghost use Rattle.batched_text.specs.Reaching.{EndsTaking, HasTaken, IsLogUpTo};
 ghost use Rattle.batched_text.specs.Sweeping.{IsSwept};
 
-use crate::quiet::{QUIET_BATCH, run_rest, take_quietly};
+use crate::line_run::run_batch;
+use crate::runner::{Alone, Runner};
+use crate::settings::QUIET_BATCH;
+use bohm_base::take_text;
 use engine::Engine;
-use line_io::{BUFFER_BYTES, Counted, LineReader, MOST_GIVEN_BYTES, ReadFault};
+use line_io::{BUFFER_BYTES, Counted, EngineFault, LineReader, MOST_GIVEN_BYTES};
+use log_text::LineBuffers;
 use model_base::{HashSeed, MOST_PLACES, Place};
 use std::alloc::Global;
 use std::io::Read;
+
+/// Takes a line into the log, as `take_text`.
+fn take_quietly(
+    alloc: Global,
+    engine: &mut Engine,
+    line: &[u8],
+    is_first: bool,
+) -> Result<(), EngineFault>
+    ensures ok { OnOk result ((reading : ParsedLine) × (ReadsAs is_first engine.old.log.names.version line.now reading
+        × (engine.new ≡ record engine.old { log = with_reading engine.old.log reading }))) }
+    ensures err { IfErr result (λ f. f ≡ EngineFault.NoMemory) }
+{
+    let mut raw = LineBuffers::new(alloc);
+    take_text(engine, line, is_first, &mut raw)?;
+    Ok(())
+}
 
 /// Takes the first line of a log. False where the input has none, and then nothing is taken.
 fn take_first<R: Read>(
@@ -23,7 +46,7 @@ fn take_first<R: Read>(
     reader: &mut Counted<R>,
     lines: &mut LineReader,
     engine: &mut Engine,
-) -> Result<bool, ReadFault>
+) -> Result<bool, EngineFault>
     requires first { engine.old.log ≡ empty_log }
     requires ahead { ahead lines.old ≡ [] }
     ensures taken { IfOk result (λ more. (place : ℕ) → MatchBool more
@@ -36,8 +59,9 @@ fn take_first<R: Read>(
     ensures kept { OnOk result (engine.new.dropped ≡ engine.old.dropped) }
     ensures store { OnOk result (engine.new.store ≡ engine.old.store) }
     ensures bound { 0 < length (ahead lines.new) → reader.new.given ≤ MOST_GIVEN_BYTES + BUFFER_BYTES }
-    ensures read { result ≡ Err ReadFault.Read → reader.new.errors ≡ raised reader.old.errors }
-    ensures other { (result ≡ Err ReadFault.Read → ⊥) → reader.new.errors ≡ reader.old.errors }
+    ensures fault { IfErr result IsOfReading }
+    ensures read { result ≡ Err EngineFault.Read → reader.new.errors ≡ raised reader.old.errors }
+    ensures other { (result ≡ Err EngineFault.Read → ⊥) → reader.new.errors ≡ reader.old.errors }
 {
     if !lines.next_line(reader)? {
         return Ok(false);
@@ -53,7 +77,7 @@ fn take_until<R: Read>(
     lines: &mut LineReader,
     engine: &mut Engine,
     place: Place,
-) -> Result<bool, ReadFault>
+) -> Result<bool, EngineFault>
     requires { 0 < length (ahead lines.old) → reader.old.given ≤ MOST_GIVEN_BYTES + BUFFER_BYTES }
     ensures taken { IfOk result (λ more. (input : Option (List ℕ)) (end : ℕ) → place ≤ end
         → HasTaken false input (prepend_known (ahead lines.old) (R.remaining reader.old.inner)) end engine.old.log
@@ -68,8 +92,9 @@ fn take_until<R: Read>(
     ensures kept { OnOk result (engine.new.dropped ≡ engine.old.dropped) }
     ensures store { OnOk result (engine.new.store ≡ engine.old.store) }
     ensures bound { 0 < length (ahead lines.new) → reader.new.given ≤ MOST_GIVEN_BYTES + BUFFER_BYTES }
-    ensures read { result ≡ Err ReadFault.Read → reader.new.errors ≡ raised reader.old.errors }
-    ensures other { (result ≡ Err ReadFault.Read → ⊥) → reader.new.errors ≡ reader.old.errors }
+    ensures fault { IfErr result IsOfReading }
+    ensures read { result ≡ Err EngineFault.Read → reader.new.errors ≡ raised reader.old.errors }
+    ensures other { (result ≡ Err EngineFault.Read → ⊥) → reader.new.errors ≡ reader.old.errors }
 {
     'lines: while engine.log().len() <= place {
         if !lines.next_line(reader)? {
@@ -88,7 +113,7 @@ fn run_some<R: Read>(
     lines: &mut LineReader,
     engine: &mut Engine,
     place: Place,
-) -> Result<bool, ReadFault>
+) -> Result<bool, EngineFault>
     requires bound { 0 < length (ahead lines.old) → reader.old.given ≤ MOST_GIVEN_BYTES + BUFFER_BYTES }
     requires mark { engine.old.store.mark ≡ finished engine.old }
     requires swept { IsSwept engine.old.store }
@@ -105,12 +130,14 @@ fn run_some<R: Read>(
     ensures all { OnOk result (finished engine.new ≡ length engine.new.log.statements) }
     ensures kept { OnOk result (engine.new.dropped ≡ engine.old.dropped) }
     ensures bound { 0 < length (ahead lines.new) → reader.new.given ≤ MOST_GIVEN_BYTES + BUFFER_BYTES }
-    ensures read { result ≡ Err ReadFault.Read → reader.new.errors ≡ raised reader.old.errors }
-    ensures other { (result ≡ Err ReadFault.Read → ⊥) → reader.new.errors ≡ reader.old.errors }
+    ensures fault { IfErr result IsOfReading }
+    ensures read { result ≡ Err EngineFault.Read → reader.new.errors ≡ raised reader.old.errors }
+    ensures other { (result ≡ Err EngineFault.Read → ⊥) → reader.new.errors ≡ reader.old.errors }
 {
     let last = place.min(engine.finished().saturating_add(QUIET_BATCH - 1));
     let more = take_until(alloc, reader, lines, engine, last)?;
-    run_rest(alloc, engine)?;
+    let _len = engine.log().len();
+    run_batch(&Runner::quiet(&Alone, alloc), engine)?;
     let goes_on = engine.finished() <= place;
     Ok(more & goes_on)
 }
@@ -121,7 +148,7 @@ fn run_until<R: Read>(
     reader: &mut Counted<R>,
     engine: &mut Engine,
     place: Place,
-) -> Result<(), ReadFault>
+) -> Result<(), EngineFault>
     requires first { engine.old.log ≡ empty_log }
     requires none { engine.old.dropped ≡ 0 }
     requires unrun { finished engine.old ≡ 0 }
@@ -132,8 +159,9 @@ fn run_until<R: Read>(
     ensures mark { OnOk result (engine.new.store.mark ≡ finished engine.new) }
     ensures swept { OnOk result (IsSwept engine.new.store) }
     ensures few { OnOk result (finished engine.new ≤ engine.new.dropped + QUIET_BATCH) }
-    ensures read { result ≡ Err ReadFault.Read → reader.new.errors ≡ raised reader.old.errors }
-    ensures other { (result ≡ Err ReadFault.Read → ⊥) → reader.new.errors ≡ reader.old.errors }
+    ensures fault { IfErr result IsOfReading }
+    ensures read { result ≡ Err EngineFault.Read → reader.new.errors ≡ raised reader.old.errors }
+    ensures other { (result ≡ Err EngineFault.Read → ⊥) → reader.new.errors ≡ reader.old.errors }
 {
     let mut lines = LineReader::new(alloc)?;
     if !take_first(alloc, reader, &mut lines, engine)? {
@@ -152,7 +180,7 @@ pub fn run_quietly_to<R: Read>(
     reader: &mut Counted<R>,
     limit: Option<Place>,
     seed: HashSeed,
-) -> Result<Engine, ReadFault>
+) -> Result<Engine, EngineFault>
     // The engine has the log of what was read up to the place, or all of it, and all of that is finished.
     ensures log { IfOk result (λ engine. IsLogUpTo (R.remaining reader.old.inner) limit engine.log) }
     ensures all { IfOk result (λ engine. finished engine ≡ length engine.log.statements) }
@@ -163,9 +191,10 @@ pub fn run_quietly_to<R: Read>(
     ensures trimmed { IfOk result (λ engine. engine.store.mark ≡ finished engine) }
     ensures swept { IfOk result (λ engine. IsSwept engine.store) }
     ensures few { IfOk result (λ engine. finished engine ≤ engine.dropped + QUIET_BATCH) }
+    ensures fault { IfErr result IsOfReading }
     // Read says that the reader failed, and nothing else does.
-    ensures read { result ≡ Err ReadFault.Read → reader.new.errors ≡ raised reader.old.errors }
-    ensures other { (result ≡ Err ReadFault.Read → ⊥) → reader.new.errors ≡ reader.old.errors }
+    ensures read { result ≡ Err EngineFault.Read → reader.new.errors ≡ raised reader.old.errors }
+    ensures other { (result ≡ Err EngineFault.Read → ⊥) → reader.new.errors ≡ reader.old.errors }
 {
     let mut engine = Engine::seeded(alloc, seed);
     let place = limit.unwrap_or(MOST_PLACES);

@@ -7,6 +7,7 @@ ghost use Rattle.line_io.specs.Failures.{CountsFailures};
 ghost use Rattle.line_io.specs.Known.{raised};
 ghost use Rattle.bohm_base.specs.Faults.{IsFaultInOrder, read_errors, write_errors};
 ghost use Rattle.bohm_base.specs.Pending.{HasBegunReport, HasReport};
+ghost use Rattle.sequencer.specs.Catalog.{no_names};
 ghost use Rattle.sequencer.specs.Foretelling.{Begins};
 ghost use Rattle.engine.specs.Engine.{finished};
 ghost use Rattle.batched_text.specs.Batching.{BatchedTurn, HasBegunReportOfRead, HasRunText, IsBatchReady, IsBeginning, IsLogOfText, ReportsRead, standing_at};
@@ -16,55 +17,39 @@ ghost use Rattle.batched_text.specs.History.{NoneWait};
 ghost use Rattle.batched_text.specs.Settings.{IsTrimmed, are_within_limits};
 ghost use Rattle.batched_text.specs.Sweeping.{IsSwept};
 
-use crate::batching::{Batching, report_batch};
 use crate::buffered::Buffered;
-use crate::history::Cut;
-use crate::lines::deal;
-use crate::lookahead::{Lookahead, ReadingAhead, deal_at_hand};
-use crate::runner::Runner;
+use crate::history::{Cut, History, Plan};
+use crate::line_run::LineRun;
+use crate::lookahead::{Dealer, InTurn, Lookahead, ReadingAhead};
+use crate::runner::{Alone, Executor, Runner, Workers};
 use crate::settings::{Batches, Settings, are_within_limits};
 use engine::Engine;
 use line_io::{Counted, EngineFault, LineReader, flush, write_out, write_pending};
 use log_text::LineBuffers;
 use model_base::HashSeed;
-use std::alloc::{AllocError, Global};
+use std::alloc::Global;
 use std::io::{Read, Write};
 use std::sync::Wait;
 use std::thread::Threads;
 
-/// Each line is read in its turn.
-const NONE_AHEAD: ReadingAhead = ReadingAhead {
-    threads: 0,
-    least: 0,
-    stretch: 0,
-    piece: 0,
-};
-
-/// Batches that are run in order.
-const IN_ORDER: Settings = Settings {
-    workers: 1,
-    partitions: 1,
-    batch: 64,
-    keep: 0,
-};
-
 /// Takes the next line, and reports its batch if that is full. False at the end of the input. It is called only while nothing of the
 /// report is pending and, where batches end before reads, while no line waits: so each line is answered before the reader is asked for more.
 #[tactic(auto, using(crate::proofs::Faults::run_stops, crate::proofs::Faults::run_told))]
-fn report_line<T: Threads + Wait + Sync, R: Read>(
-    runner: &Runner<T>,
+fn report_line<E: Executor, R: Read>(
+    runner: &Runner<E>,
     reader: &mut Counted<R>,
     lines: &mut LineReader,
-    batching: &mut Batching,
+    run: &mut LineRun,
 ) -> Result<bool, EngineFault>
-    requires ready { IsBatchReady runner.now.plan batching.old (length (ahead lines.old)) reader.old.given }
-    requires nothing { batching.old.pending.items ≡ [] }
-    requires none { NoneWait runner.now.plan.cut batching.old.waiting.items }
+    requires may_run { E.may_run runner.now.executor.now runner.now.plan.settings.workers }
+    requires ready { IsBatchReady runner.now.plan run.old (length (ahead lines.old)) reader.old.given }
+    requires nothing { run.old.pending.items ≡ [] }
+    requires none { NoneWait runner.now.plan.cut run.old.waiting.items }
     ensures turn { (held : Option (List ℕ)) → BatchedTurn runner.now.plan result
-        (standing_at (ahead lines.old) (R.remaining reader.old.inner) reader.old.given held batching.old)
-        (standing_at (ahead lines.new) (R.remaining reader.new.inner) reader.new.given held batching.new) }
+        (standing_at (ahead lines.old) (R.remaining reader.old.inner) reader.old.given held run.old)
+        (standing_at (ahead lines.new) (R.remaining reader.new.inner) reader.new.given held run.new) }
     ensures reads { reader.new.errors ≡ read_errors result reader.old.errors }
-    ensures begins { OnOk result (Begins (log_names batching.old) (log_names batching.new)) }
+    ensures begins { OnOk result (Begins (log_names run.old) (log_names run.new)) }
     ensures err { IfErr result (λ f. f ≢ EngineFault.Write) }
     ensures alone { IfErr result (IsOfRun runner.now.plan.settings.workers) }
 {
@@ -72,62 +57,53 @@ fn report_line<T: Threads + Wait + Sync, R: Read>(
         return Ok(false);
     }
     let mut raw = LineBuffers::new(runner.alloc);
-    deal(runner, batching, lines.line(), &mut raw)?;
+    run.deal(runner, lines.line(), &mut raw)?;
     Ok(true)
-}
-
-/// A reader of lines, which reads much at once where threads read lines before their turn.
-fn lines_for(alloc: Global, reading: ReadingAhead) -> Result<LineReader, AllocError>
-    ensures { IfOk result (λ lines. ahead lines ≡ []) }
-{
-    if reading.threads > 0 {
-        return LineReader::growing(alloc);
-    }
-    LineReader::new(alloc)
 }
 
 /// Takes the lines of the input, and runs and reports all of it, the end of the report still pending. In each turn it takes a line, as
 /// `report_line`, and then whole buffered lines, as `deal_at_hand`. Then it reports the lines that wait, unless batches are full, and writes
 /// what is pending.
 #[tactic(auto, using(crate::proofs::Faults::run_stops, crate::proofs::Faults::run_told))]
-fn report_all<T: Threads + Wait + Sync, R: Read, W: Write>(
-    runner: &Runner<T>,
+fn report_all<E: Executor, D: Dealer<E>, R: Read, W: Write>(
+    runner: &Runner<E>,
     reader: &mut Counted<R>,
     writer: &mut Counted<W>,
-    batching: &mut Batching,
-    reading: ReadingAhead,
+    run: &mut LineRun,
+    dealer: &mut D,
 ) -> Result<(), EngineFault>
-    requires { IsBeginning runner.now.plan batching.old }
+    requires may_run { E.may_run runner.now.executor.now runner.now.plan.settings.workers }
+    requires fresh { IsBeginning runner.now.plan run.old }
+    requires may_deal { D.may_deal dealer.old }
+    requires unnamed { D.names dealer.old ≡ no_names }
     ensures done { OnOk result (HasReport (R.remaining reader.old.inner) (W.contents writer.old.inner) (W.contents writer.new.inner)
-        batching.new.pending.items) }
+        run.new.pending.items) }
     ensures begun { HasBegunReport (R.remaining reader.old.inner) (W.contents writer.old.inner) (W.contents writer.new.inner)
-        batching.new.pending.items }
+        run.new.pending.items }
     ensures begun_read { HasBegunReportOfRead (R.remaining reader.old.inner) (R.remaining reader.new.inner)
-        (W.contents writer.old.inner) (W.contents writer.new.inner) batching.new.pending.items }
-    ensures ran { OnOk result (HasRunText runner.now.plan (R.remaining reader.old.inner) batching.new.engine) }
+        (W.contents writer.old.inner) (W.contents writer.new.inner) run.new.pending.items }
+    ensures ran { OnOk result (HasRunText runner.now.plan (R.remaining reader.old.inner) run.new.engine) }
     ensures reads { reader.new.errors ≡ read_errors result reader.old.errors }
     ensures writes { writer.new.errors ≡ write_errors result writer.old.errors }
     ensures flushes { writer.new.flushes ≡ writer.old.flushes }
     ensures alone { IfErr result (IsOfRun runner.now.plan.settings.workers) }
 {
-    let mut lines = lines_for(runner.alloc, reading)?;
-    let seed = batching.engine.log().catalog().seed();
-    let mut lookahead = Lookahead::seeded(runner.alloc, reading, seed);
-    'turns: while report_line(runner, reader, &mut lines, batching)? {
+    let mut lines = dealer.reader(runner.alloc)?;
+    'turns: while report_line(runner, reader, &mut lines, run)? {
         let bytes = lines.bytes_ahead();
         let buffered = Buffered {
             bytes,
             given: reader.given,
         };
-        let taken = deal_at_hand(runner, &mut lookahead, batching, &buffered)?;
+        let taken = dealer.deal_at_hand(runner, run, &buffered)?;
         match runner.plan.cut {
             Cut::WhenFull => {}
-            Cut::BeforeReads => report_batch(runner, batching)?,
+            Cut::BeforeReads => run.report(runner)?,
         }
         lines.take_ahead(taken);
-        write_pending(writer, &mut batching.pending)?;
+        write_pending(writer, &mut run.pending)?;
     }
-    report_batch(runner, batching)?;
+    run.report(runner)?;
     Ok(())
 }
 
@@ -146,22 +122,25 @@ fn end_report<W: Write>(writer: &mut Counted<W>) -> Result<(), EngineFault>
 /// Reads a log to its end, runs it in batches, and writes its report, at a fault as much of it as was made; then the writer is
 /// flushed. No line was dealt with before.
 #[tactic(auto, using(crate::proofs::Faults::run_stops, crate::proofs::Faults::run_told))]
-fn run_batches<T: Threads + Wait + Sync, R: Read, W: Write>(
-    runner: &Runner<T>,
+fn run_batches<E: Executor, D: Dealer<E>, R: Read, W: Write>(
+    runner: &Runner<E>,
     reader: &mut Counted<R>,
     writer: &mut Counted<W>,
-    batching: &mut Batching,
-    reading: ReadingAhead,
+    run: &mut LineRun,
+    dealer: &mut D,
 ) -> Result<(), EngineFault>
-    requires { IsBeginning runner.now.plan batching.old }
+    requires may_run { E.may_run runner.now.executor.now runner.now.plan.settings.workers }
+    requires fresh { IsBeginning runner.now.plan run.old }
+    requires may_deal { D.may_deal dealer.old }
+    requires unnamed { D.names dealer.old ≡ no_names }
     ensures report { ReportsRead (R.remaining reader.old.inner) (R.remaining reader.new.inner)
         (W.contents writer.old.inner) (W.contents writer.new.inner) result }
-    ensures ran { OnOk result (HasRunText runner.now.plan (R.remaining reader.old.inner) batching.new.engine) }
+    ensures ran { OnOk result (HasRunText runner.now.plan (R.remaining reader.old.inner) run.new.engine) }
     ensures failures { CountsFailures EngineFault.Read EngineFault.Write reader.old reader.new writer.old writer.new result }
     ensures alone { IfErr result (IsOfRun runner.now.plan.settings.workers) }
 {
-    let ended = report_all(runner, reader, writer, batching, reading);
-    let written = write_out(writer, &batching.pending);
+    let ended = report_all(runner, reader, writer, run, dealer);
+    let written = write_out(writer, &run.pending);
     ended?;
     written?;
     end_report(writer)?;
@@ -203,10 +182,20 @@ pub fn run_text<T: Threads + Wait + Sync, R: Read, W: Write>(
     if !are_within_limits(settings) {
         return Err(EngineFault::BadSettings);
     }
-    let mut batching = Batching::seeded(alloc, seed);
-    let runner = Runner::keeping(rt, alloc, *settings);
-    run_batches(&runner, reader, writer, &mut batching, NONE_AHEAD)?;
-    Ok(batching.engine)
+    let plan = Plan {
+        settings: *settings,
+        history: History::Kept,
+        cut: Cut::WhenFull,
+    };
+    let crew = settings.crew();
+    let runner = Runner {
+        executor: &Workers { rt, crew },
+        alloc,
+        plan,
+    };
+    let mut run = LineRun::seeded(alloc, seed);
+    run_batches(&runner, reader, writer, &mut run, &mut InTurn)?;
+    Ok(run.engine)
 }
 
 /// Writes the report of a log as `run_text`, but drops what is finished. Where bytes arrive `Live` a batch ends before the reader may wait;
@@ -236,10 +225,19 @@ pub fn report_text<T: Threads + Wait + Sync, R: Read, W: Write>(
     if !are_within_limits(&batches.settings) {
         return Err(EngineFault::BadSettings);
     }
-    let mut batching = Batching::seeded(alloc, seed);
-    let cut = Cut::of(batches.arrival);
-    let runner = Runner::dropping(rt, alloc, batches.settings, cut);
-    run_batches(&runner, reader, writer, &mut batching, NONE_AHEAD)
+    let plan = Plan {
+        settings: batches.settings,
+        history: History::Dropped,
+        cut: Cut::of(batches.arrival),
+    };
+    let crew = batches.settings.crew();
+    let runner = Runner {
+        executor: &Workers { rt, crew },
+        alloc,
+        plan,
+    };
+    let mut run = LineRun::seeded(alloc, seed);
+    run_batches(&runner, reader, writer, &mut run, &mut InTurn)
 }
 
 /// Writes the report of a log that it runs in order on this thread, while as many more as `reading` says read lines ahead. Nothing finished
@@ -262,7 +260,34 @@ pub fn report_in_order<T: Threads + Wait + Sync, R: Read, W: Write>(
     // There is no setting to be bad, and a thread that reads ahead and can't be started ends no run.
     ensures alone { IfErr result IsFaultInOrder }
 {
-    let mut batching = Batching::seeded(alloc, seed);
-    let runner = Runner::dropping(rt, alloc, IN_ORDER, Cut::BeforeReads);
-    run_batches(&runner, reader, writer, &mut batching, reading)
+    if reading.threads == 0 {
+        return report_alone(alloc, reader, writer, seed);
+    }
+    let runner = Runner::dropping_all(&Alone, alloc);
+    let mut run = LineRun::seeded(alloc, seed);
+    let mut lookahead = Lookahead::seeded(rt, alloc, reading, seed);
+    run_batches(&runner, reader, writer, &mut run, &mut lookahead)
+}
+
+/// Writes the report of a log that it runs in order on this thread, as `report_in_order`, but starts no thread and waits for none. Lines
+/// are written before more is read.
+#[tactic(auto, using(crate::proofs::Faults::in_order))]
+pub fn report_alone<R: Read, W: Write>(
+    alloc: Global,
+    reader: &mut Counted<R>,
+    writer: &mut Counted<W>,
+    seed: HashSeed,
+) -> Result<(), EngineFault>
+    // What was written is the report of what was read, and after a fault a beginning of it, which says nothing of what the reader has left.
+    ensures report { ReportsRead (R.remaining reader.old.inner) (R.remaining reader.new.inner)
+        (W.contents writer.old.inner) (W.contents writer.new.inner) result }
+    // Read and Write come only where the reader or the writer failed. Ok says that neither of them failed, in the flush at the end neither,
+    // and that the writer was flushed once and not written to since.
+    ensures failures { CountsFailures EngineFault.Read EngineFault.Write reader.old reader.new writer.old writer.new result }
+    // There is no setting to be bad, and no thread to be started.
+    ensures alone { IfErr result IsFaultInOrder }
+{
+    let alone = Runner::dropping_all(&Alone, alloc);
+    let mut run = LineRun::seeded(alloc, seed);
+    run_batches(&alone, reader, writer, &mut run, &mut InTurn)
 }

@@ -3,7 +3,14 @@
 ghost use Rattle.std.specs.Prelude.{◌≡◌, ◌≤◌, ◌<◌, true};
 ghost use Rattle.batched_text.specs.Settings.{are_within_limits, mark_behind};
 
+use engine::Crew;
 use model_base::{MOST_BATCH_STATEMENTS, MOST_KEPT_BATCHES, MOST_PARTITIONS, MOST_WORKERS, Place};
+
+/// How many statements a batch has that is run in order.
+pub const IN_ORDER_BATCH: u64 = 64;
+
+/// How many places a batch of a run without a report has, but for the last one.
+pub const QUIET_BATCH: u64 = 1024;
 
 /// How a log is cut into batches, how each is placed and run, and of how many the rows before them are kept.
 #[derive(Clone, Copy)]
@@ -17,6 +24,32 @@ pub struct Settings {
     pub batch: u64,
     /// Before how many of the last batches the rows are kept: 0 to `MOST_KEPT_BATCHES`.
     pub keep: u64,
+}
+
+impl Settings {
+    ghost use Rattle.batched_text.specs.Settings.{in_order};
+
+    /// By whom a batch is run.
+    pub(crate) fn crew(&self) -> Crew
+        ensures { result ≡ record { workers = self.now.workers; partitions = self.now.partitions } }
+    {
+        Crew {
+            workers: self.workers,
+            partitions: self.partitions,
+        }
+    }
+
+    /// One worker, which runs batches of this size in order, and keeps no rows before them.
+    pub(crate) fn in_order(batch: u64) -> Self
+        ensures { result ≡ in_order batch }
+    {
+        Settings {
+            workers: 1,
+            partitions: 1,
+            batch,
+            keep: 0,
+        }
+    }
 }
 
 /// How the bytes of a log arrive.

@@ -30,7 +30,7 @@ pub trait RowSource {
         ensures { result ≡ rows self.now key.table key.row };
 }
 
-/// What holds the rows of all tables, and takes new ones.
+/// What holds the rows of all tables, and takes new ones. A trait, so that what is proved of writing rows back names no map.
 pub trait RowStore: RowSource {
     ghost use Rattle.std.specs.Prelude.{◌≡◌, ℕ, false, IsSome, OnOk};
     ghost use Rattle.model_base.specs.Rows.{with_row};

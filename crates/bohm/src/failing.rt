@@ -4,7 +4,9 @@ ghost use Rattle.std.specs.Prelude.{◌≡◌, ◌++◌, [], ℕ, IfOk, List, co
 ghost use Rattle.command_line.specs.Words.{path_of};
 ghost use Rattle.bohm.specs.Failing.{FollowsFault, MayGiveReason};
 
-use command_line::{ProgramFault, Source, WorkFault};
+use audit_text::WorkFault;
+use command_line::{ProgramFault, Source};
+use line_io::EngineFault;
 use std::alloc::{AllocError, Global};
 use std::cell::Cell;
 use std::io::Write;
@@ -117,14 +119,17 @@ fn more_of(alloc: Global, fault: &ProgramFault, source: Source<'_>, reasons: &Re
     ensures { FollowsFault fault.now (unwrap_or (path_of source.entry) (codes "-")) (string_bytes result) }
 {
     match fault {
-        ProgramFault::Work(WorkFault::Read) => read_text(alloc, source.name(), &reasons.read),
-        ProgramFault::Work(WorkFault::Write) => reason_text(alloc, "", &reasons.write),
-        ProgramFault::Work(WorkFault::NoMemory | WorkFault::NoSuchPlace(_) | WorkFault::Spawn) => {
-            String::new(alloc)
+        ProgramFault::Work(WorkFault::Run(EngineFault::Read)) => {
+            read_text(alloc, source.name(), &reasons.read)
         }
-        ProgramFault::Arguments(_) | ProgramFault::Usage(_) | ProgramFault::Open(_) => {
-            String::new(alloc)
+        ProgramFault::Work(WorkFault::Run(EngineFault::Write)) => {
+            reason_text(alloc, "", &reasons.write)
         }
+        ProgramFault::Work(
+            WorkFault::Run(EngineFault::NoMemory | EngineFault::BadSettings | EngineFault::Spawn),
+        ) => String::new(alloc),
+        ProgramFault::Work(WorkFault::NoSuchPlace(_)) => String::new(alloc),
+        ProgramFault::Usage(_) | ProgramFault::Open(_) => String::new(alloc),
     }
 }
 

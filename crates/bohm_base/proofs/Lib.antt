@@ -5,5 +5,6 @@ pub mod LinesRead
 pub mod Beginnings
 pub mod WholeLogs
 pub mod Reporting
+pub mod PlacesTold
 pub mod Reached
 pub mod RunResults

@@ -1,17 +1,14 @@
 -- The lines that were read, and what they became.
 use Rattle.std.proofs.Common.{◌≡◌, ◌≢◌, ℕ, ◌<◌, ◌&&◌, Bool, true, false, List, [], ◌∷◌, ◌++◌, length, take, Option, Some, None, refl, ap, sym, ◌∙◌, subst, inl, inr, arith, append_assoc}
-use Rattle.std.specs.Prelude.{◌==◌, Result, Ok, Err, IfErr, IsErrAnd, IfOk, IfSome, OnOk, bytes_eq}
+use Rattle.std.specs.Prelude.{◌==◌, Result, Ok, Err, IfErr, IfSome, OnOk, bytes_eq}
 use Rattle.std.specs.Io.KnownBytes.{IsAtEnd, prepend_known}
 use Rattle.std.proofs.lemmas.List.{append-nil, length-append, take_all, length-take-le}
 use Rattle.std.proofs.lemmas.Bool.{cases_Bool, cases_lt, cond-true, lt-ltb, ne_eqb}
 use Rattle.std.proofs.lemmas.Slice.Eq.{bytes_eq-Decides}
-use Rattle.line_io.specs.Known.{HadSome, TookLine, raised}
-use Rattle.line_io.specs.Faults.{of_reading}
-use Rattle.line_io.specs.declared.fault.EngineFault.{EngineFault}
-use Rattle.line_io.specs.declared.fault.ReadFault.{ReadFault}
+use Rattle.line_io.specs.Known.{HadSome, TookLine}
 use Rattle.line_io.specs.Lines.{lines_of, first_line, other_lines}
 use Rattle.line_io.proofs.LinesLaws.{lines_first}
-use Rattle.log_text.specs.Statement.{Sentence, ReadsIn}
+use Rattle.log_text.specs.Statement.{IsInGrammar, Sentence, ReadsIn}
 use Rattle.log_text.specs.Fault.{fault_in}
 use Rattle.log_text.specs.Versions.{heading_line}
 use Rattle.log_text.specs.declared.version.Version.{Version}
@@ -19,10 +16,10 @@ use Rattle.line_words.specs.declared.fault.LineFault.{LineFault}
 use Rattle.sequencer.specs.Catalog.{Names, no_names}
 use Rattle.sequencer.specs.Log.{Accepted, empty_log}
 use Rattle.report.specs.Report.{AreParsedFrom, AreParsedLines, IsParsedLine, ParsedLine, the_heading, is_heading, names_after, version_with}
+use Rattle.report.specs.Report as report
 use Rattle.report.proofs.ReportLemmas.{names_after-append, version-with}
 use Rattle.bohm_base.specs.declared.collecting.LineOutcome.{LineOutcome}
-use Rattle.bohm_base.specs.Faults.{read_errors}
-use Rattle.bohm_base.specs.Collecting.{Collects, CollectsSoFar, AreReadBefore, ReadsAs, line_outcome, reading_of, with_reading}
+use Rattle.bohm_base.specs.Collecting.{Collects, CollectsSoFar, AreReadBefore, ReadsAs, line_outcome, reading_by, with_reading}
 use Rattle.bohm_base.proofs.Logs.{length-line_outcomes, log_step}
 
 too_long : (version : Version) (l : List ℕ) → 4096 < length l → fault_in version l ≡ Some LineFault.TooLong
@@ -47,10 +44,6 @@ kept_reading version line whole sentence reads sound is =
       | inr short ↦ subst (λ (l : List ℕ). ReadsIn version l sentence) (is ∙ take_all 4097 whole (omega arith)) reads
     ]
 
-kept_faulty : (version : Version) (line whole : List ℕ) (fault : LineFault) → fault_in version line ≡ Some fault → line ≡ take 4097 whole
-    → fault_in version whole ≡ Some fault
-kept_faulty version line whole fault found is = sym (kept_fault version whole) ∙ ap (fault_in version) (sym is) ∙ found
-
 -- a long line isn't the heading
 no_heading : (l : List ℕ) → 4096 < length l → bytes_eq l heading_line ≡ false
 no_heading l long =
@@ -58,11 +51,6 @@ no_heading l long =
       | inl same ↦ absurd (let count = ap length ((bytes_eq-Decides l heading_line).0 same) in omega (arith, count))
       | inr other ↦ other
     ]
-
--- a line that is some other isn't either
-pub other_line : (first : Bool) (line : List ℕ) → bytes_eq line heading_line ≡ false → is_heading first line ≡ false
-other_line true line other = other
-other_line false line other = refl
 
 -- they are enough to tell whether it is the heading
 kept_heading : (first : Bool) (line whole : List ℕ) → line ≡ take 4097 whole → is_heading first line ≡ is_heading first whole
@@ -75,17 +63,32 @@ kept_heading first line whole is =
       | inr short ↦ ap (is_heading first) (take_all 4097 whole (omega arith))
     ]
 
--- what the parser answers of 4,097 bytes of a line that isn't the heading is how the line is read
-pub reads_as : (first : Bool) (version : Version) (line : List ℕ) (found : Result Sentence LineFault) → is_heading first line ≡ false
-    → IfOk found (λ sentence. ReadsIn version line sentence) → OnOk found (fault_in version line ≡ None)
-    → IfErr found (λ fault. fault ≢ LineFault.NoMemory → fault_in version line ≡ Some fault) → found ≢ Err LineFault.NoMemory
-    → ReadsAs first version line (reading_of found)
-reads_as first version line (Ok sentence) other reads sound faulty told = λ whole is.
+-- a line that was read was read as a statement of the grammar
+pub in_grammar : {X E : Type 0} (version : Version) (line : List ℕ) (found : Result X E) (sentence : Sentence) → OnOk found (ReadsIn version line sentence)
+    → OnOk found (IsInGrammar sentence)
+in_grammar version line (Ok done) sentence reads = reads.grammar
+in_grammar version line (Err fault) sentence reads = tt
+
+-- the statement that 4,097 bytes of a line read as, no heading, is how the line is read
+pub reads_statement : (first : Bool) (version : Version) (line : List ℕ) (sentence : Sentence) → is_heading first line ≡ false
+    → ReadsIn version line sentence → fault_in version line ≡ None → ReadsAs first version line (report.read sentence)
+reads_statement first version line sentence other reads sound = λ whole is.
     (sym (kept_heading first line whole is) ∙ other, kept_reading version line whole sentence reads sound is)
-reads_as first version line (Err fault) other reads sound faulty told = λ whole is. (
-  sym (kept_heading first line whole is) ∙ other,
-  kept_faulty version line whole fault (faulty (λ same. told (let P : LineFault → Result Sentence LineFault = λ f. Err f in ap P same))) is,
-)
+
+-- so is their fault
+pub reads_faulty : (first : Bool) (version : Version) (line : List ℕ) (fault : LineFault) → is_heading first line ≡ false
+    → fault_in version line ≡ Some fault → ReadsAs first version line (report.faulty fault)
+reads_faulty first version line fault other found = λ whole is.
+    (sym (kept_heading first line whole is) ∙ other, sym (kept_fault version whole) ∙ ap (fault_in version) (sym is) ∙ found)
+
+-- what was found of them is how the line is read
+pub reads_by : {X : Type 0} (first : Bool) (version : Version) (line : List ℕ) (found : Result X LineFault) (sentence : Sentence) → is_heading first line ≡ false
+    → OnOk found (ReadsIn version line sentence) → OnOk found (fault_in version line ≡ None)
+    → IfErr found (λ fault. fault ≢ LineFault.NoMemory → fault_in version line ≡ Some fault) → found ≢ Err LineFault.NoMemory
+    → ReadsAs first version line (reading_by found sentence)
+reads_by first version line (Ok done) sentence other reads sound faulty told = reads_statement first version line sentence other reads sound
+reads_by {X} first version line (Err fault) sentence other reads sound faulty told =
+    reads_faulty first version line fault other (faulty (λ same. told (let P : LineFault → Result X LineFault = λ f. Err f in ap P same)))
 
 -- 4,097 bytes of a line that are the heading are the whole line
 pub reads_heading : (first : Bool) (version : Version) (line : List ℕ) → is_heading first line ≡ true → ReadsAs first version line the_heading
@@ -158,14 +161,3 @@ collect_end (Some xs) (Some ys) log lines so end =
     let version : Version = (names_after no_names earlier).version in
     let none : AreParsedFrom first version (lines_of ys) [] = subst (λ (l : List ℕ). AreParsedFrom first version (lines_of l) []) (sym end) tt in
     (so.0, (subst (AreParsedLines (lines_of xs)) (append-nil so.0) (so.1.0 [] none), so.1.1))
-
--- what a fault of reading says of the reader's failures
-pub fault_told : {A B : Type 0} (fault : ReadFault) (found : Result A ReadFault) (result : Result B EngineFault) (old now : ℕ) → found ≡ Err fault
-    → IsErrAnd result (λ e. e ≡ of_reading fault) → (found ≡ Err ReadFault.Read → now ≡ raised old) → ((found ≡ Err ReadFault.Read → ⊥) → now ≡ old)
-    → now ≡ read_errors result old
-fault_told {A} {B} ReadFault.NoMemory found (Ok x) old now is from read other = absurd from
-fault_told {A} {B} ReadFault.NoMemory found (Err e) old now is from read other =
-    other (λ same. cc) ∙ sym (ap (λ (f : EngineFault). read_errors {A = B} (Err f) old) from)
-fault_told {A} {B} ReadFault.Read found (Ok x) old now is from read other = absurd from
-fault_told {A} {B} ReadFault.Read found (Err e) old now is from read other =
-    read is ∙ sym (ap (λ (f : EngineFault). read_errors {A = B} (Err f) old) from)

@@ -54,10 +54,6 @@ module _ (tables : ℕ) (own : List ℕ) (place : ℕ) (world : World) where
       judged-named statement (missing own world statement.user form)
       (found (λ (need : Need). need.table < tables) _ (needs form) within)
 
-  -- so does the outcome of a statement of these tables
-  pub place-named : (statement : Statement) → IsWithin tables statement → IsNamed tables (at_place own place world statement).0
-  place-named statement within = form-named statement statement.form within
-
   some-named : (statement : Option Statement) → IfSome statement (IsWithin tables)
       → IfSome (option_map (λ (s : Statement). (at_place own place world s).0) statement) (IsNamed tables)
   some-named None within = tt

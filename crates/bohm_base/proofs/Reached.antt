@@ -1,18 +1,15 @@
 -- What was written of a report, and what is pending of it.
-use Rattle.std.proofs.Common.{◌≡◌, ℕ, List, [], ◌++◌, take, drop, Option, Some, None, refl, ap, sym, ◌∙◌, subst, append_assoc}
-use Rattle.std.specs.Prelude.{Result, Ok, Err, OnOk}
+use Rattle.std.proofs.Common.{◌≡◌, ℕ, List, [], ◌++◌, Option, Some, None, ap}
 use Rattle.std.specs.Io.KnownBytes.{Appends, Keeps}
-use Rattle.std.proofs.lemmas.List.{append-nil, take-append-drop}
 use Rattle.line_io.specs.Known.{AppendsFront, HasBegun}
-use Rattle.line_io.proofs.Written.{appends_then, appends_kept, appends_front, front_kept}
+use Rattle.line_io.proofs.Written.{appends_none, front_kept}
 use Rattle.bohm_base.specs.Pending.{HasBegunReport, HasReport, WritesBegunReport, WritesReport}
-use Rattle.bohm_base.proofs.Beginnings.{begun_then}
+use Rattle.bohm_base.proofs.Beginnings.{begun_then, begun_written, whole_written}
 use Rattle.report.proofs.Readings.{IsTotal, some_report}
 
 -- nothing was written
 pub appends_nothing : (o : Option (List ℕ)) → Appends o o []
-appends_nothing None = tt
-appends_nothing (Some ys) = sym (append-nil ys)
+appends_nothing o = appends_none o []
 
 -- a beginning of what was pending is written, and then pending
 pub report_begun : (i o n m : Option (List ℕ)) (pending less : List ℕ) → HasBegunReport i o n pending → HasBegun n m less pending
@@ -25,29 +22,13 @@ pub front_written : (i o n m : Option (List ℕ)) (pending : List ℕ)
     → HasBegunReport i o n pending → AppendsFront n m pending
     → WritesBegunReport i o m
 front_written None o n m pending b a = tt
-front_written (Some xs) o n m pending b a =
-    let text : List ℕ = b.0 in
-    let rest : List ℕ = b.1.1.0 in
-    let front : List ℕ = b.1.1.1.0 in
-    let first : List ℕ = take a.0 pending in
-    let last : List ℕ = drop a.0 pending in (
-      text,
-      (
-        b.1.0,
-        appends_front o m (front ++ first) (last ++ rest) text (appends_then o n m front first b.1.1.1.1 a.1)
-            (append_assoc front first (last ++ rest)
-            ∙ ap (λ (w : List ℕ). front ++ w) (sym (append_assoc first last rest) ∙ ap (λ (w : List ℕ). w ++ rest) (take-append-drop a.0 pending))
-            ∙ b.1.1.1.2),
-      ),
-    )
+front_written (Some xs) o n m pending b a = (b.0, (b.1.0, begun_written o n m b.0 pending b.1.1 a))
 
 pub all_written : (i o n m k : Option (List ℕ)) (pending : List ℕ)
     → HasReport i o n pending → Appends n m pending → Keeps m k
     → WritesReport i o k
 all_written None o n m k pending b a e = tt
-all_written (Some xs) o n m k pending b a e =
-    let front : List ℕ = b.1.1.0 in
-    (b.0, (b.1.0, subst (Appends o k) b.1.1.2 (appends_kept o m k (front ++ pending) (appends_then o n m front pending b.1.1.1 a) e)))
+all_written (Some xs) o n m k pending b a e = (b.0, (b.1.0, whole_written o n m k b.0 pending b.1.1 a e))
 
 -- before anything is read, nothing is written or pending
 pub begun_start : IsTotal → (i o : Option (List ℕ)) (pending : List ℕ) → pending ≡ []
@@ -61,8 +42,3 @@ pub front_kept_written : (i o n m k : Option (List ℕ)) (pending : List ℕ)
     → HasBegunReport i o n pending → AppendsFront n m pending → Keeps m k
     → WritesBegunReport i o k
 front_kept_written i o n m k pending b a e = front_written i o n k pending b (front_kept n m k pending a e)
-
--- what holds where the answer is Ok
-pub on_ok : {E : Type 0} (result : Result (Unit {0}) E) (P : Type 0) → (result ≡ Ok tt → P) → OnOk result P
-on_ok (Ok done) P told = told refl
-on_ok (Err fault) P told = tt

@@ -1,6 +1,6 @@
 -- The report's line for a place, where the log has more statements and more names.
 use Rattle.std.proofs.Common.{◌≡◌, ℕ, ℤ, ◌<◌, ◌≤◌, List, [], ◌∷◌, ◌++◌, length, drop, get_or, map, Option, Some, None, refl, ap, sym, ◌∙◌, subst, arith}
-use Rattle.std.specs.Prelude.{All, Contains, Result, Ok, Err, IfOk, IfSome, filter_map, unwrap_or, if◌then◌else◌, codes, option_and_then, slice_get}
+use Rattle.std.specs.Prelude.{All, Contains, IfSome, filter_map, unwrap_or, if◌then◌else◌, codes, option_and_then, slice_get}
 use Rattle.std.specs.Fmt.{decimal}
 use Rattle.std.specs.List.{flat_map}
 use Rattle.std.proofs.lemmas.List.Elements.{All-head, All-nil, All-tail, All-weaker}
@@ -26,7 +26,7 @@ use Rattle.sequencer.specs.Foretelling.{Begins}
 use Rattle.sequencer.specs.Log.{Accepted}
 use Rattle.sequencer.specs.Whole.{IsAccepted, IsKnownTo, IsWhole}
 use Rattle.sequencer.proofs.Beginnings.{behind}
-use Rattle.report.specs.Text.{HaveGrantees, IsNamed, cause_text, deed_text, done_text, grantee_name, numbers_text, outcome_text, record_in, records_listed, records_revoked, records_text, spelled_record, table_name}
+use Rattle.report.specs.Text.{IsNamed, cause_text, deed_text, done_text, grantee_name, numbers_text, outcome_text, record_in, records_listed, records_revoked, records_text, spelled_record, table_name}
 use Rattle.bohm_base.proofs.Named.{got}
 use Rattle.bohm_base.proofs.WholeLogs.{slice_get_longer}
 
@@ -174,14 +174,3 @@ module _ (log : List Statement) (name : Inside) (ranked : ℕ) (is : rank_of nam
   no-grantee past =
       ap (grantee_in ranked) (sym (slice_get_past log name.place past))
       ∙ ap (λ (place : ℕ). grantee_in ranked (slice_get log place)) (sym (place-at name ranked is))
-
--- those that are found by the records of an outcome are their grantees
-pub all-found : (version : Version) (log : List Statement) (place : ℕ) (ranks : List ℕ) (grantees : List Grantee) → WereGranted log place ranks
-    → grantees ≡ filter_map (grantee_at log) ranks → HaveGrantees version log ranks grantees
-all-found Version.One log place ranks grantees granted is = tt
-all-found Version.Two log place ranks grantees granted is = grantees-found log place ranks granted ∙ ap (map Some) (sym is)
-
--- what follows for the value of an answer
-pub if_ok-then : {A E : Type 0} {P Q : A → Type 0} (result : Result A E) → IfOk result P → ((x : A) → P x → Q x) → IfOk result Q
-if_ok-then (Ok x) holds follows = follows x holds
-if_ok-then (Err fault) holds follows = tt

@@ -38,6 +38,11 @@ places_of LineOutcome.Accepted = 1
 places_of (LineOutcome.Faulty fault) = 0
 places_of (LineOutcome.Refused refused) = 0
 
+-- how many places some lines have
+abbrev pub places_in : List LineOutcome → ℕ
+places_in [] = 0
+places_in (line ∷ lines) = places_of line + places_in lines
+
 -- the report's line for a line of this number, which has this place if it has one; the heading has none
 abbrev pub line_outcome_text : List Statement → Names → ℕ → ℕ → LineOutcome → List ℕ
 line_outcome_text log names number place LineOutcome.Heading = []
@@ -60,10 +65,10 @@ abbrev pub ReadsAs : Bool → Version → List ℕ → ParsedLine → Type 0
 ReadsAs first version known reading =
     (line : List ℕ) → known ≡ take KEPT_BYTES line → IsParsedLine first version line reading
 
--- how a line was read, by what the parser answers
-abbrev pub reading_of : Result Sentence LineFault → ParsedLine
-reading_of (Ok sentence) = read sentence
-reading_of (Err fault) = faulty fault
+-- how a line was read: as this statement, or as a faulty line
+abbrev pub reading_by : {X : Type 0} → Result X LineFault → Sentence → ParsedLine
+reading_by (Ok done) sentence = read sentence
+reading_by (Err fault) sentence = faulty fault
 
 -- the log after a line that was read so
 abbrev pub with_reading : Accepted → ParsedLine → Accepted

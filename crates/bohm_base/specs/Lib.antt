@@ -1,4 +1,4 @@
 pub mod Collecting
-pub mod Cursors
 pub mod Faults
 pub mod Pending
+pub mod Places

@@ -1,16 +1,15 @@
 //! The whole log, read to its end before any of it is run.
 
-ghost use Rattle.std.specs.Prelude.{◌≡◌, ◌≢◌, ◌≤◌, [], IfOk, IfErr, IfSome, OnErr, OnOk, Err};
-ghost use Rattle.std.specs.Result.{ForOk};
-ghost use Rattle.log_text.specs.Statement.{IsInGrammar};
+ghost use Rattle.std.specs.Prelude.{◌≡◌, ◌≢◌, ◌≤◌, [], IfOk, IfErr, IfSome, OnOk};
 ghost use Rattle.line_io.specs.Ahead.{ahead};
 ghost use Rattle.sequencer.specs.Log.{empty_log};
-ghost use Rattle.report.specs.Report.{ParsedLine, read};
+ghost use Rattle.report.specs.Report.{ParsedLine};
 ghost use Rattle.bohm_base.specs.Faults.{IsFaultInOrder, read_errors};
-ghost use Rattle.bohm_base.specs.Collecting.{Collects, LineMayLackMemory, ReadsAs, line_outcome, places_of, reading_of, with_reading};
+ghost use Rattle.bohm_base.specs.Collecting.{Collects, ReadsAs, line_outcome, places_of, with_reading};
 
+use crate::lines::take_text;
 use line_io::{Counted, EngineFault, LineReader};
-use log_text::{LineFault, RawStatement, Version, is_heading_line, parse_line_in};
+use log_text::{LineBuffers, LineFault};
 use model_base::HashSeed;
 use sequencer::{Log, Refused};
 use std::alloc::Global;
@@ -85,68 +84,19 @@ pub fn faulty_line(fault: LineFault) -> Result<LineOutcome, EngineFault>
     }
 }
 
-/// Takes a statement into the log if it is not refused, and says what its line became. After an error the log is as it
-/// was, and the statement is not refused.
-fn take_statement(log: &mut Log, statement: RawStatement<'_>) -> Result<LineOutcome, EngineFault>
-    requires { IsInGrammar statement }
-    ensures line { IfOk result (λ line. line ≡ line_outcome log.old.names (read statement.entry)) }
-    ensures log { OnOk result (log.new ≡ with_reading log.old (read statement.entry)) }
-    ensures err { IfErr result (λ f. f ≡ EngineFault.NoMemory) }
-    ensures want { OnErr result (LineMayLackMemory (line_outcome log.old.names (read statement.entry))) }
-{
-    match log.push(&statement) {
-        Ok(_) => Ok(LineOutcome::Accepted),
-        Err(refused) => {
-            let line = refused_line(refused)?;
-            Ok(line)
-        }
-    }
-}
-
-/// Takes the statement that a line was read as into the log if it is one that is not refused, and says what the line
-/// became. After an error the log is as it was, and the line is neither a faulty nor a refused one.
-fn take_read(
-    log: &mut Log,
-    found: Result<RawStatement<'_>, LineFault>,
-) -> Result<LineOutcome, EngineFault>
-    requires { ForOk found IsInGrammar }
-    ensures line { IfOk result (λ line. line ≡ line_outcome log.old.names (reading_of found.entry)) }
-    ensures log { OnOk result (log.new ≡ with_reading log.old (reading_of found.entry)) }
-    ensures told { OnOk result (found.entry ≢ Err LineFault.NoMemory) }
-    ensures err { IfErr result (λ f. f ≡ EngineFault.NoMemory) }
-    ensures want { OnErr result (LineMayLackMemory (line_outcome log.old.names (reading_of found.entry))) }
-{
-    match found {
-        Ok(statement) => {
-            let line = take_statement(log, statement)?;
-            Ok(line)
-        }
-        Err(fault) => {
-            let line = faulty_line(fault)?;
-            Ok(line)
-        }
-    }
-}
-
-/// Reads a line of the log's version, takes its statement into the log if it is one that is not refused, and says what the line became. The
-/// first line may be the heading of version 2, which sets the log's version. After an error the log is as it was.
+/// Takes a line into the log, as `take_text`.
 fn take_line(
     alloc: Global,
     log: &mut Log,
     line: &[u8],
     is_first: bool,
 ) -> Result<LineOutcome, EngineFault>
-    ensures line { IfOk result (λ line'. (reading : ParsedLine) × (ReadsAs is_first log.old.names.version line.now reading
-        × ((line' ≡ line_outcome log.old.names reading) × (log.new ≡ with_reading log.old reading)))) }
+    ensures line { IfOk result (λ became. (reading : ParsedLine) × (ReadsAs is_first log.old.names.version line.now reading
+        × ((became ≡ line_outcome log.old.names reading) × (log.new ≡ with_reading log.old reading)))) }
     ensures err { IfErr result (λ f. f ≡ EngineFault.NoMemory) }
 {
-    if is_first && is_heading_line(line) {
-        log.set_version(Version::Two);
-        return Ok(LineOutcome::Heading);
-    }
-    let found = parse_line_in(alloc, log.catalog().version(), line);
-    let line = take_read(log, found)?;
-    Ok(line)
+    let mut raw = LineBuffers::new(alloc);
+    take_text(log, line, is_first, &mut raw)
 }
 
 /// Reads lines to the end of what the reader gives, and collects them. Nothing is read or collected before.

@@ -10,12 +10,15 @@ ghost use Rattle.bohm_base.specs.Faults.{IsFaultInOrder, write_errors};
 ghost use Rattle.bohm_base.specs.Pending.{ReportsInput};
 
 use crate::collecting::{Collected, collect_lines};
-use crate::report_cursor::ReportCursor;
+use crate::serial_log::SerialLog;
 use line_io::{Counted, EngineFault, PENDING_BYTES, flush, write_out};
 use model::serial;
 use model_base::{HashSeed, Outcome};
 use std::alloc::Global;
 use std::io::{Read, Write};
+
+/// Lines of the report that are made at once.
+const LINES_AT_ONCE: usize = 64;
 
 /// Writes the report of a log by the outcomes of its places, the end of it still pending. After a fault whole lines are
 /// pending.
@@ -37,18 +40,20 @@ fn report_lines<W: Write>(
     ensures err { IfErr result (λ f. f ≢ EngineFault.Read) }
     ensures alone { IfErr result IsFaultInOrder }
 {
+    let log = SerialLog {
+        alloc,
+        log: &collected.log,
+        outcomes,
+    };
+    let lines = collected.lines.as_slice();
     let mut text = Vec::new(alloc);
     let mut place = 0;
-    for (index, line) in collected.lines.iter().enumerate() {
-        let cursor = ReportCursor {
-            alloc,
-            log: &collected.log,
-            outcomes,
-            number: index as u64 + 1,
-            place,
-        };
-        cursor.report_line(writer, pending, &mut text, *line)?;
-        place += line.places();
+    let mut done = 0;
+    while done < lines.len() {
+        let next = done + (lines.len() - done).min(LINES_AT_ONCE);
+        let some = &lines[done..next];
+        place = log.report_lines(writer, pending, &mut text, done as u64, place, some)?;
+        done = next;
     }
     Ok(())
 }

@@ -3,9 +3,9 @@
 //! A handle is a pointer and a flag that C keeps. Each call takes the run out of the handle, and gives it back.
 #![tactic(auto)]
 
-ghost use Rattle.std.specs.Prelude.{◌≡◌, ◌≤◌, ◌<◌, ◌+◌, ◌++◌, ◌↔◌, [], false, ℕ, List, None, Some, IfSome, IfNone, IsSome, drop, length, pos, take, true};
+ghost use Rattle.std.specs.Prelude.{◌≡◌, ◌≤◌, ◌<◌, ◌+◌, ◌++◌, ◌↔◌, [], false, ℕ, List, None, Some, IfSome, IfNone, IsSome, MatchOption, drop, length, pos, take, true};
 ghost use Rattle.report.specs.Report.{IsReport};
-ghost use Rattle.fed_run.specs.Stands.{TextExplains, IsFed, IsGivenOut, IsUnfed, unsent};
+ghost use Rattle.fed_run.specs.Stands.{IsFed, IsGivenOut, IsUnfed, KeepsLast, TextExplains, unsent};
 ghost use Rattle.bohm_c.specs.Statuses.{IsExplainStatus, IsSetStatus, IsStatus, explain_status, status_number, status_text};
 
 mod handle;
@@ -179,7 +179,7 @@ pub extern "C" fn bohm_finish(
 
 /// Sets an option of a run.
 fn set(run: &mut FedRun, option: u32, value: u64) -> i32
-    ensures done { result ≡ DONE → (option ≡ KEEP) × (run.new ≡ record run.old { order = record run.old.order { keep = value } }) }
+    ensures done { result ≡ DONE → (option ≡ KEEP) × KeepsLast value run.old run.new }
     ensures still { (result ≡ DONE → ⊥) → run.new ≡ run.old }
     ensures fresh { option ≡ KEEP → (result ≡ DONE) ↔ IsUnfed run.old }
     ensures status { IsSetStatus option result }
@@ -194,7 +194,7 @@ fn set(run: &mut FedRun, option: u32, value: u64) -> i32
 #[unsafe(no_mangle)]
 pub extern "C" fn bohm_set(alloc: Global, handle: &mut Handle, option: u32, value: u64) -> i32
     ensures done { result ≡ DONE → IfSome handle.old.run (λ old. (option ≡ KEEP)
-        × (handle.new.run ≡ Some (record old { order = record old.order { keep = value } }))) }
+        × MatchOption handle.new.run ⊥ (KeepsLast value old)) }
     // The option can be set exactly where no byte was given and the text wasn't ended.
     ensures fresh { IfSome handle.old.run (λ old. option ≡ KEEP → (result ≡ DONE) ↔ IsUnfed old) }
     ensures status { IfSome handle.old.run (λ _. IsSetStatus option result) }
@@ -250,8 +250,8 @@ fn write_explanation(
     ensures told { result ≡ DONE → TextExplains run.now place (take made.new out.new) × (made.new ≤ length out.old) }
     ensures room { result ≡ ROOM → (length out.old < made.new)
         × ((text : List ℕ) × (TextExplains run.now place text × (length text ≡ made.new))) }
-    ensures none { (result ≡ NO_PLACE) ↔ (run.now.order.reported ≤ place) }
-    ensures forgotten { result ≡ FORGOTTEN → place + run.now.order.keep < run.now.order.reported }
+    ensures none { (result ≡ NO_PLACE) ↔ (run.now.run.reported ≤ place) }
+    ensures forgotten { result ≡ FORGOTTEN → place + run.now.keep < run.now.run.reported }
     ensures status { IsExplainStatus result }
     ensures still { (result ≡ DONE → ⊥) → out.new ≡ out.old }
     ensures made { (result ≡ DONE → ⊥) → (result ≡ ROOM → ⊥) → made.new ≡ 0 }
@@ -278,9 +278,9 @@ pub extern "C" fn bohm_explain(
     // Where there is too little room, it is given how much is needed.
     ensures room { result ≡ ROOM → IfSome handle.old.run (λ run. (length out.old < made.new)
         × ((text : List ℕ) × (TextExplains run place text × (length text ≡ made.new)))) }
-    ensures none { IfSome handle.old.run (λ run. (result ≡ NO_PLACE) ↔ (run.order.reported ≤ place)) }
+    ensures none { IfSome handle.old.run (λ run. (result ≡ NO_PLACE) ↔ (run.run.reported ≤ place)) }
     // The last places, as many as are to be kept, can be explained.
-    ensures forgotten { IfSome handle.old.run (λ run. result ≡ FORGOTTEN → place + run.order.keep < run.order.reported) }
+    ensures forgotten { IfSome handle.old.run (λ run. result ≡ FORGOTTEN → place + run.keep < run.run.reported) }
     ensures status { IfSome handle.old.run (λ _. IsExplainStatus result) }
     ensures same { handle.new.run ≡ handle.old.run }
     ensures still { (result ≡ DONE → ⊥) → out.new ≡ out.old }
@@ -300,7 +300,7 @@ pub extern "C" fn bohm_explain(
 #[unsafe(no_mangle)]
 pub extern "C" fn bohm_lines(alloc: Global, handle: &mut Handle) -> u64
     ensures same { handle.new.run ≡ handle.old.run }
-    ensures lines { IfSome handle.old.run (λ run. result ≡ run.lines) }
+    ensures lines { IfSome handle.old.run (λ run. result ≡ run.run.lines) }
     ensures closed { handle.old.run ≡ None → result ≡ 0 }
 {
     let Some(run) = take(alloc, handle) else {
@@ -315,7 +315,7 @@ pub extern "C" fn bohm_lines(alloc: Global, handle: &mut Handle) -> u64
 #[unsafe(no_mangle)]
 pub extern "C" fn bohm_places(alloc: Global, handle: &mut Handle) -> u64
     ensures same { handle.new.run ≡ handle.old.run }
-    ensures places { IfSome handle.old.run (λ run. result ≡ length run.order.run.log.statements) }
+    ensures places { IfSome handle.old.run (λ run. result ≡ length run.run.engine.log.statements) }
     ensures closed { handle.old.run ≡ None → result ≡ 0 }
 {
     let Some(run) = take(alloc, handle) else {

@@ -11,7 +11,7 @@ use std::alloc::AllocError;
 
 /// The statements of a batch, and what is before it. An index is that of a place in the batch, from 0, and a slot that of a grant that was
 /// made before the batch or that the batch may make. What a place stores and ends is only asked where the state shows it what the serial
-/// run shows it.
+/// run shows it. A trait, so that the machine and its law know nothing of logs.
 pub trait Statements {
     ghost batch: { Self → Batch };
 

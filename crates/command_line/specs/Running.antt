@@ -1,8 +1,10 @@
 -- How the work on a log ends.
 use Rattle.std.specs.Prelude.{◌≡◌, ◌≤◌, ◌⊎◌, ℕ, Err, IsSome, List, MatchBool, Ok, Option, Result}
+use Rattle.line_io.specs.declared.fault.EngineFault.{EngineFault}
 use Rattle.report.specs.Report.{IsReport}
 use Rattle.audit_text.specs.Answer.{HasNoPlace, IsExplanation}
 use Rattle.audit_text.specs.Picture.{EndsBefore, IsPicture}
+use Rattle.audit_text.specs.declared.fault.WorkFault.{WorkFault}
 use Rattle.batched_text.specs.declared.settings.Arrival.{Arrival}
 use Rattle.command_line.specs.Options.{IfGiven, place_named}
 use Rattle.command_line.specs.Ways.{is_alone}
@@ -12,7 +14,6 @@ use Rattle.command_line.specs.declared.command_words.ProgramFault.{ProgramFault}
 use Rattle.command_line.specs.declared.options.Choice.{Choice}
 use Rattle.command_line.specs.declared.options.TheConstants.{MOST_AHEAD}
 use Rattle.command_line.specs.declared.work.Task.{Task}
-use Rattle.command_line.specs.declared.work.WorkFault.{WorkFault}
 
 -- the path of the log that a command names, or none where that is standard input
 abbrev pub path_in : Command → Option (List ℕ)
@@ -65,13 +66,12 @@ IsTaskOf arrival (Command.Grants source limit) task = task ≡ Task.Picture limi
 -- the fault says that a file can't be opened
 abbrev pub IsOpenFault : ProgramFault → Type 0
 IsOpenFault (ProgramFault.Open text) = Unit {0}
-IsOpenFault (ProgramFault.Arguments fault) = ⊥
 IsOpenFault (ProgramFault.Usage usage) = ⊥
 IsOpenFault (ProgramFault.Work fault) = ⊥
 
 -- it says so, or that memory ran out for the text that would
 abbrev pub IsUnopened : ProgramFault → Type 0
-IsUnopened fault = IsOpenFault fault ⊎ (fault ≡ ProgramFault.Work WorkFault.NoMemory)
+IsUnopened fault = IsOpenFault fault ⊎ (fault ≡ ProgramFault.Work (WorkFault.Run EngineFault.NoMemory))
 
 -- the command was done by the task that it asks for, of a log whose bytes arrive as its source's may, and ended as that did, or its file
 -- couldn't be opened

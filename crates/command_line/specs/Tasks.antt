@@ -1,15 +1,14 @@
 -- The tasks on a log: what is written by each, and which faults it may end with.
-use Rattle.std.specs.Prelude.{◌≡◌, ◌≢◌, ◌≤◌, ℕ, Err, List, None, Option, Result, Some, true}
+use Rattle.std.specs.Prelude.{◌≡◌, ◌≢◌, ◌≤◌, ℕ, Err, List, Result, true}
 use Rattle.line_io.specs.declared.fault.EngineFault.{EngineFault}
 use Rattle.report.specs.Report.{IsReport}
 use Rattle.audit_text.specs.Answer.{HasNoPlace, IsExplanation}
 use Rattle.audit_text.specs.Picture.{EndsBefore, IsPicture}
-use Rattle.audit_text.specs.declared.fault.AuditFault.{AuditFault}
+use Rattle.audit_text.specs.declared.fault.WorkFault.{WorkFault}
 use Rattle.batched_text.specs.Settings.{are_within_limits}
 use Rattle.command_line.specs.Options.{place_named}
 use Rattle.command_line.specs.declared.options.TheConstants.{MOST_AHEAD}
 use Rattle.command_line.specs.declared.work.Task.{Task}
-use Rattle.command_line.specs.declared.work.WorkFault.{WorkFault}
 
 -- the numbers of a task are within their limits
 abbrev pub TaskIsWithin : Task → Type 0
@@ -41,23 +40,9 @@ LacksNoPlace ended = (places : ℕ) → ended ≢ Err (WorkFault.NoSuchPlace pla
 
 -- a run never ends for want of a place, and only several workers end it because a thread could not be started
 abbrev pub MayAnswer : Task → Result (Unit {0}) WorkFault → Type 0
-MayAnswer (Task.InOrder threads) ended = LacksNoPlace ended × (ended ≢ Err WorkFault.Spawn)
-MayAnswer (Task.InBatches settings arrival) ended = LacksNoPlace ended × (settings.workers ≤ 1 → ended ≢ Err WorkFault.Spawn)
-MayAnswer Task.Slow ended = LacksNoPlace ended × (ended ≢ Err WorkFault.Spawn)
-MayAnswer (Task.Explain question) ended = ended ≢ Err WorkFault.Spawn
-MayAnswer (Task.Picture limit) ended = ended ≢ Err WorkFault.Spawn
-
--- the fault of a run; the settings of a task are within their limits
-abbrev pub of_run : EngineFault → Option WorkFault
-of_run EngineFault.NoMemory = Some WorkFault.NoMemory
-of_run EngineFault.Read = Some WorkFault.Read
-of_run EngineFault.Write = Some WorkFault.Write
-of_run EngineFault.BadSettings = None
-of_run EngineFault.Spawn = Some WorkFault.Spawn
-
--- the fault of a question
-abbrev pub of_audit : AuditFault → WorkFault
-of_audit AuditFault.NoMemory = WorkFault.NoMemory
-of_audit AuditFault.Read = WorkFault.Read
-of_audit AuditFault.Write = WorkFault.Write
-of_audit (AuditFault.NoSuchPlace places) = WorkFault.NoSuchPlace places
+MayAnswer (Task.InOrder threads) ended = LacksNoPlace ended × (ended ≢ Err (WorkFault.Run EngineFault.Spawn))
+MayAnswer (Task.InBatches settings arrival) ended =
+    LacksNoPlace ended × (settings.workers ≤ 1 → ended ≢ Err (WorkFault.Run EngineFault.Spawn))
+MayAnswer Task.Slow ended = LacksNoPlace ended × (ended ≢ Err (WorkFault.Run EngineFault.Spawn))
+MayAnswer (Task.Explain question) ended = ended ≢ Err (WorkFault.Run EngineFault.Spawn)
+MayAnswer (Task.Picture limit) ended = ended ≢ Err (WorkFault.Run EngineFault.Spawn)

@@ -4,11 +4,9 @@ use Rattle.std.specs.Option.{option_map_or}
 use Rattle.std.specs.Str.{trim_end}
 use Rattle.clap.specs.Words.{IsAmong, Kinds, Row, Text, first_of}
 use Rattle.clap.specs.declared.error.kind.ErrorKind.{ErrorKind}
-use Rattle.audit_text.specs.Faults.{audit_fault_text}
-use Rattle.audit_text.specs.declared.fault.AuditFault.{AuditFault}
+use Rattle.audit_text.specs.Faults.{work_fault_text}
 use Rattle.audit_text.specs.declared.question.Question.{Question}
 use Rattle.batched_text.specs.declared.settings.Settings.{Settings}
-use Rattle.bohm_base.specs.declared.command_line.ArgumentFault.{ArgumentFault}
 use Rattle.command_line.specs.Options.{limit_among, progress_among, question_among}
 use Rattle.command_line.specs.Ways.{IsWithin, way_among}
 use Rattle.command_line.specs.declared.command_words.Command.{Command}
@@ -21,12 +19,12 @@ use Rattle.command_line.specs.declared.options.Choice.{Choice}
 use Rattle.command_line.specs.declared.options.Limit.{Limit}
 use Rattle.command_line.specs.declared.options.Progress.{Progress}
 use Rattle.command_line.specs.declared.options.Way.{Way}
-use Rattle.command_line.specs.declared.work.WorkFault.{WorkFault}
 
 -- whether an error of this kind is given so: help and the version as help, any other as a fault of the words
 abbrev pub TellsError : Usage → ErrorKind → Type 0
 TellsError (Usage.Help text) kind = (kind ≡ ErrorKind.DisplayHelp) ⊎ (kind ≡ ErrorKind.DisplayVersion)
 TellsError (Usage.Fault text) kind = (kind ≢ ErrorKind.DisplayHelp) × (kind ≢ ErrorKind.DisplayVersion)
+TellsError Usage.NotUtf8 kind = ⊥
 TellsError Usage.OutsideLimits kind = ⊥
 TellsError Usage.NoMemory kind = Unit {0}
 
@@ -34,12 +32,11 @@ TellsError Usage.NoMemory kind = Unit {0}
 abbrev pub TellsOneOf : Kinds → Usage → Type 0
 TellsOneOf kinds usage = (usage ≡ Usage.NoMemory) ⊎ ((kind : ErrorKind) × (IsAmong kind kinds × TellsError usage kind))
 
--- 0 where help or the version was asked for, 2 for words that `clap` refuses, and 1 for any other fault
+-- 0 where help or the version was asked for, 2 for words that aren't text or that `clap` refuses, and 1 for any other fault
 abbrev pub status_of : ProgramFault → ℕ
-status_of (ProgramFault.Arguments ArgumentFault.NotUtf8) = 2
-status_of (ProgramFault.Arguments ArgumentFault.NoMemory) = 1
 status_of (ProgramFault.Usage (Usage.Fault text)) = 2
 status_of (ProgramFault.Usage (Usage.Help text)) = 0
+status_of (ProgramFault.Usage Usage.NotUtf8) = 2
 status_of (ProgramFault.Usage Usage.OutsideLimits) = 1
 status_of (ProgramFault.Usage Usage.NoMemory) = 1
 status_of (ProgramFault.Open text) = 1
@@ -49,24 +46,15 @@ status_of (ProgramFault.Work fault) = 1
 abbrev pub stream_of : ProgramFault → Stream
 stream_of fault = if status_of fault == 0 then Stream.Output else Stream.Error
 
--- a fault of the work on a log has one line; of a missing place it says which places the log has
-abbrev pub work_message : WorkFault → List ℕ
-work_message WorkFault.NoMemory = codes "bohm: out of memory"
-work_message WorkFault.Read = codes "bohm: cannot read"
-work_message WorkFault.Write = codes "bohm: cannot write"
-work_message (WorkFault.NoSuchPlace places) = codes "bohm: " ++ audit_fault_text (AuditFault.NoSuchPlace places)
-work_message WorkFault.Spawn = codes "bohm: cannot start a worker"
-
 -- the text of a fault, without white space at its end
 abbrev pub message_of : ProgramFault → List ℕ
-message_of (ProgramFault.Arguments ArgumentFault.NotUtf8) = codes "bohm: an argument isn't valid UTF-8"
-message_of (ProgramFault.Arguments ArgumentFault.NoMemory) = codes "bohm: out of memory"
 message_of (ProgramFault.Usage (Usage.Fault text)) = trim_end (string_bytes text)
 message_of (ProgramFault.Usage (Usage.Help text)) = trim_end (string_bytes text)
+message_of (ProgramFault.Usage Usage.NotUtf8) = codes "bohm: an argument isn't valid UTF-8"
 message_of (ProgramFault.Usage Usage.OutsideLimits) = codes "bohm: bad settings"
 message_of (ProgramFault.Usage Usage.NoMemory) = codes "bohm: out of memory"
 message_of (ProgramFault.Open text) = string_bytes text
-message_of (ProgramFault.Work fault) = work_message fault
+message_of (ProgramFault.Work fault) = codes "bohm: " ++ work_fault_text fault
 
 -- the subcommand of a name
 abbrev pub verb_named : Text → Verb

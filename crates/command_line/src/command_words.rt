@@ -8,10 +8,8 @@ ghost use Rattle.command_line.specs.Words.{Asks, AsksOutsideLimits, IsWithinLimi
 
 use crate::options::{Choice, Limit, Progress, limit_of, progress_of, question_of, way_of};
 use crate::subcommands::program;
-use crate::work::WorkFault;
-use audit_text::Question;
+use audit_text::{Question, WorkFault};
 use batched_text::Settings;
-use bohm_base::ArgumentFault;
 use clap::error::ErrorKind;
 use clap::{ArgMatches, Error};
 use std::alloc::Global;
@@ -92,6 +90,8 @@ pub enum Usage {
     Fault(String),
     /// The words ask for help, or for the version.
     Help(String),
+    /// A word isn't text.
+    NotUtf8,
     /// A setting isn't within its limits.
     OutsideLimits,
     /// A growth was refused.
@@ -101,8 +101,7 @@ pub enum Usage {
 /// Why the program ends before its work is done.
 #[derive(Drop)]
 pub enum ProgramFault {
-    /// The words can't be had.
-    Arguments(ArgumentFault),
+    /// The words can't be had, or are no command.
     Usage(Usage),
     /// The file can't be opened, with the text to print.
     Open(String),
@@ -126,16 +125,15 @@ impl fmt::Display for ProgramFault {
 
     fn fmt<W: fmt::Write>(&self, f: &mut fmt::Formatter<W>) -> fmt::Result {
         match self {
-            ProgramFault::Arguments(ArgumentFault::NotUtf8) => {
-                f.write_str("bohm: an argument isn't valid UTF-8")
-            }
-            ProgramFault::Arguments(ArgumentFault::NoMemory) => f.write_str("bohm: out of memory"),
             ProgramFault::Usage(Usage::Fault(text)) => f.write_str(text.as_str().trim_end()),
             ProgramFault::Usage(Usage::Help(text)) => f.write_str(text.as_str().trim_end()),
+            ProgramFault::Usage(Usage::NotUtf8) => {
+                f.write_str("bohm: an argument isn't valid UTF-8")
+            }
             ProgramFault::Usage(Usage::OutsideLimits) => f.write_str("bohm: bad settings"),
             ProgramFault::Usage(Usage::NoMemory) => f.write_str("bohm: out of memory"),
             ProgramFault::Open(text) => f.write_str(text.as_str()),
-            ProgramFault::Work(fault) => write!(f, "{fault}"),
+            ProgramFault::Work(fault) => write!(f, "bohm: {fault}"),
         }
     }
 }
@@ -262,9 +260,8 @@ pub fn ending(fault: &ProgramFault) -> (u8, Stream)
     ensures stream { result.1 ≡ stream_of fault.now }
 {
     match fault {
-        ProgramFault::Arguments(ArgumentFault::NotUtf8) => (2, Stream::Error),
-        ProgramFault::Arguments(ArgumentFault::NoMemory) => (1, Stream::Error),
         ProgramFault::Usage(Usage::Fault(_)) => (2, Stream::Error),
+        ProgramFault::Usage(Usage::NotUtf8) => (2, Stream::Error),
         ProgramFault::Usage(Usage::Help(_)) => (0, Stream::Output),
         ProgramFault::Usage(Usage::OutsideLimits | Usage::NoMemory) => (1, Stream::Error),
         ProgramFault::Open(_) | ProgramFault::Work(_) => (1, Stream::Error),

@@ -6,6 +6,7 @@
 //! of a fault and where its text goes, which is what it displays. `options.rt` has each option with its limits and default.
 #![tactic(auto)]
 
+mod arguments;
 mod command_words;
 mod options;
 mod running;
@@ -13,10 +14,11 @@ mod sources;
 mod subcommands;
 mod work;
 
+pub use arguments::argument_fault;
 pub use command_words::{
     Command, ProgramFault, Request, Source, Stream, Usage, ending, read_words,
 };
 pub use options::{Choice, Limit, Progress};
 pub use running::do_command;
 pub use sources::{Opened, Sources};
-pub use work::{Job, SeededJob, Task, WorkFault};
+pub use work::{Job, SeededJob, Task};

@@ -11,9 +11,10 @@ ghost use Rattle.command_line.specs.Words.{IsWithinLimits};
 use crate::command_words::{Command, ProgramFault, Source};
 use crate::options::{Choice, MOST_AHEAD, is_alone};
 use crate::sources::{Opened, Sources};
-use crate::work::{Job, Task, WorkFault};
+use crate::work::{Job, Task};
+use audit_text::WorkFault;
 use batched_text::Arrival;
-use line_io::Counted;
+use line_io::{Counted, EngineFault};
 use std::alloc::Global;
 use std::io::{Read, Write};
 use std::sync::Wait;
@@ -70,7 +71,7 @@ fn open_fault(alloc: Global, source: Source<'_>, error: &io::Error) -> ProgramFa
     let path = source.name();
     match format!(in alloc; "bohm: cannot open {path}: {error}") {
         Ok(text) => ProgramFault::Open(text),
-        Err(_) => ProgramFault::Work(WorkFault::NoMemory),
+        Err(_) => ProgramFault::Work(WorkFault::Run(EngineFault::NoMemory)),
     }
 }
 
@@ -124,8 +125,9 @@ pub fn do_command<J: Job, L: Sources, T: Threads + Wait + Sync, W: Write>(
     ensures flushed { OnOk result ((told.new.flushes ≡ raised told.old.flushes) × (told.new.is_flushed ≡ true)) }
     // Open comes only where the file was refused, and then the writer is as it was. Write comes only where the writer failed.
     ensures unopened { IfErr result (λ fault. IsOpenFault fault → L.refuses sources (path_in command.entry) × (told.new ≡ told.old)) }
-    ensures write { result ≡ Err (ProgramFault.Work WorkFault.Write) → told.old.errors < 2 ^ 64 - 1
+    ensures write { result ≡ Err (ProgramFault.Work (WorkFault.Run EngineFault.Write)) → told.old.errors < 2 ^ 64 - 1
         → told.old.errors < told.new.errors }
+    ensures settings { result ≡ Err (ProgramFault.Work (WorkFault.Run EngineFault.BadSettings)) → ⊥ }
 {
     let Opened { mut log, arrival } = match open_log(alloc, sources, &command) {
         Ok(opened) => opened,

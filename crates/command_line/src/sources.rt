@@ -19,6 +19,7 @@ pub struct Opened<L> {
 /// Standard input and files, of which one is opened and read.
 ///
 /// A type with this trait need not be `Drop`, and `open` takes the value: whoever is given sources opens one of them, and no second one.
+/// It is a trait, so that commands are proved for whatever they read, without files.
 pub trait Sources {
     /// A reader of the log of a source.
     type Log: Read + Drop;

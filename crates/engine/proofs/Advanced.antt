@@ -17,7 +17,7 @@ use Rattle.sequencer.specs.Tail.{Tail}
 use Rattle.engine.specs.Known.{AreKnown, AreNamed}
 use Rattle.engine.specs.RunState.{IsRunState}
 use Rattle.engine.proofs.Came.{came_at, came_count}
-use Rattle.filling.specs.FinishedRange.{AreOutcomes}
+use Rattle.filling.specs.Finished.{AreOutcomes}
 use Rattle.engine.specs.Engine.{IsRunKept, IsRun, Run, RunsTo, finished}
 use Rattle.engine.specs.Running.{HasRun}
 use Rattle.engine.specs.declared.state.RunState.{RunState}

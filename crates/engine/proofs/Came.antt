@@ -5,7 +5,7 @@ use Rattle.std.proofs.lemmas.List.FromFn.{get_or-map-range_with_len, length-map-
 use Rattle.model_base.specs.declared.outcome.Outcome.{Outcome}
 use Rattle.model_base.specs.declared.statement.Statement.{Statement}
 use Rattle.model_base.specs.Outcomes.{outcome}
-use Rattle.filling.specs.FinishedRange.{AreOutcomes}
+use Rattle.filling.specs.Finished.{AreOutcomes}
 
 module _ (log : List Statement) (first count : ℕ) (outcomes : List Outcome) (are : AreOutcomes log first count outcomes) where
   pub came_count : length outcomes ≡ count

@@ -1,22 +1,25 @@
--- The placers of an opened batch, and what came of its workers.
-use Rattle.std.proofs.Common.{◌≡◌, ℕ, List, arith, refl}
-use Rattle.std.specs.Prelude.{Ok}
+-- The placers of an opened batch, and what the batch of a range results in.
+use Rattle.std.proofs.Common.{◌≡◌, ◌-◌, ℕ, false, List, arith, subst}
 use Rattle.words.specs.Passes.{Words}
+use Rattle.grants_base.specs.Book.{Entries}
+use Rattle.sequencer.specs.Log.{Accepted}
+use Rattle.log_batch.specs.Supplied.{LogRange, log_range}
+use Rattle.filling.specs.declared.completion.finished.Finished.{Finished}
+use Rattle.filling.specs.Finished.{IsFinished}
 use Rattle.filling.specs.Keys.{Key}
 use Rattle.filling.specs.declared.placer.Placer.{Placer}
 use Rattle.filling.specs.Placers.{AreNewPlacers, IsPlacerIn, placer_front}
-use Rattle.workers.specs.declared.work.Worked.{Worked}
-use Rattle.workers.specs.declared.work.Worked.TheVariants.{Done, NoMemory, NotStarted}
 use Rattle.workers.specs.Placing.{HavePlaced}
-use Rattle.workers.specs.Working.{came_of}
 
 -- new placers are placers of these words
 pub new_placed : (words : Words Key) (partitions : ℕ) (placers : List Placer) → AreNewPlacers words partitions placers
     → HavePlaced IsPlacerIn placer_front words 0 placers
 new_placed words partitions placers made index placer is = ((made.each index placer is).0, omega arith)
 
--- workers that ran the batch were done
-pub done_of : (worked : Worked) (unit : Unit {0}) → Ok unit ≡ came_of worked → worked ≡ Done
-done_of Done unit is = refl
-done_of NoMemory unit is = absurd (cc is)
-done_of NotStarted unit is = absurd (cc is)
+-- what the batch of a range results in
+pub finished_range : (log : Accepted) (batch : LogRange) (start end partitions : ℕ) (book before : Entries) (done : Finished)
+    → batch ≡ log_range log start end partitions false → book ≡ before
+    → IsFinished batch.log.statements batch.first batch.size book done → IsFinished log.statements start (end - start) before done
+finished_range log batch start end partitions book before done is same finished =
+    subst (λ (b : Entries). IsFinished log.statements start (end - start) b done) same
+    (subst (λ (r : LogRange). IsFinished r.log.statements r.first r.size book done) is finished)

@@ -15,7 +15,7 @@ use Rattle.model_base.specs.Growing.{NeedsOwnTables}
 use Rattle.model_base.proofs.Growing.{outcome-stands, world-stands, owners-append}
 use Rattle.engine.specs.Known.{AreKnown, AreKnownFrom, IsKnown}
 use Rattle.engine.specs.RunState.{IsRunState}
-use Rattle.filling.specs.FinishedRange.{AreOutcomes}
+use Rattle.filling.specs.Finished.{AreOutcomes}
 
 take-front : {X : Type 0} (n : ℕ) (xs ys : List X) → n ≤ length xs → take n (xs ++ ys) ≡ take n xs
 take-front zero xs ys less = refl

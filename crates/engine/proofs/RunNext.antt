@@ -16,7 +16,7 @@ use Rattle.sequencer.specs.Log.{Accepted, with_accepted}
 use Rattle.sequencer.specs.Tail.{Tail}
 use Rattle.sequencer.specs.Whole.{IsAccepted, IsWhole}
 use Rattle.sequencer.proofs.WholeLogs.{foretold_accepted, taken_after}
-use Rattle.filling.specs.FinishedRange.{AreOutcomes}
+use Rattle.filling.specs.Finished.{AreOutcomes}
 use Rattle.filling.proofs.Ranges.{outcomes_more}
 use Rattle.engine.specs.Engine.{IsRun, IsRunKept, Run, RunsNext}
 use Rattle.engine.specs.RunState.{IsRunState}

@@ -32,8 +32,8 @@ use Rattle.engine.specs.Known.{AreKnown, AreNamed, AreNamedFrom}
 use Rattle.engine.specs.declared.state.RunState.{RunState}
 use Rattle.engine.specs.RunState.{IsBookState, IsRunState}
 use Rattle.engine.specs.Running.{AddsFrom}
-use Rattle.engine.proofs.Making.{made_none, owned}
-use Rattle.engine.proofs.Stepping.{Leads, at_tables, counted, leads, make_owners}
+use Rattle.filling.proofs.Making.{made_none, owned}
+use Rattle.filling.proofs.Stepping.{Leads, at_tables, counted, leads, make_owners}
 
 -- a right store that ends at a place tells the rows before it
 pub rows-are : (log : List Statement) (store : Store) (place : ℕ) → store.mark ≤ store.end → store.end ≡ place → IsRight log store → rows_at_end store ≡ rows_before log place

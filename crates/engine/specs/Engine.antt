@@ -13,7 +13,7 @@ use Rattle.sequencer.specs.Log.{Accepted, with_accepted}
 use Rattle.engine.specs.declared.crew.Crew.{Crew}
 use Rattle.engine.specs.Known.{AreKnown, AreNamed}
 use Rattle.engine.specs.RunState.{IsRunState}
-use Rattle.filling.specs.FinishedRange.{AreOutcomes}
+use Rattle.filling.specs.Finished.{AreOutcomes}
 
 -- the log, the versions of rows, the book of grants, the outcomes of the places that are finished, and of how many of the first of
 -- these neither statement nor outcome is kept

@@ -14,7 +14,7 @@ use Rattle.sequencer.specs.Whole.{IsAccepted}
 use Rattle.engine.specs.Known.{AreKnown, AreNamed}
 use Rattle.engine.specs.declared.state.RunState.{RunState}
 use Rattle.engine.specs.RunState.{IsRunState}
-use Rattle.filling.specs.FinishedRange.{AreOutcomes}
+use Rattle.filling.specs.Finished.{AreOutcomes}
 
 -- the range lies in the log, its statements are kept, and the state is the one before it
 pub record IsNextRange (tail : Tail) (first end : ℕ) (state : RunState) : Type 0 where

@@ -4,11 +4,10 @@ ghost use Rattle.std.specs.Prelude.{◌≡◌, ◌≤◌, ◌+◌, ℕ, IfOk, On
 ghost use Rattle.model_base.specs.Outcomes.{deed_done, deeds_of, owners, world_before};
 ghost use Rattle.sequencer.specs.Log.{Accepted};
 ghost use Rattle.grants_base.specs.Book.{cut_book};
-ghost use Rattle.own_words.specs.Words.{creates};
 ghost use Rattle.engine.specs.RunState.{AreOwnDeeds, IsBookState, IsCreating, IsMaking};
 
 use crate::remembering::RememberingBook;
-use model_base::{Deed, DeedDone, Deeds, Form, Items, Place, Statement};
+use model_base::{Deed, DeedDone, Deeds, Items, Place, Statement};
 use std::alloc::{AllocError, Global};
 
 /// Makes the grants of a place that are left in the book, one after another. On `Err`, out of memory.
@@ -91,11 +90,4 @@ pub(crate) fn create(
 {
     book.add_table(statement.user, place)?;
     Ok(())
-}
-
-/// Whether the statement creates a table.
-pub(crate) fn creates(form: &Form) -> bool
-    ensures { result ≡ creates form.now }
-{
-    matches!(form, Form::Create { .. })
 }

@@ -1,17 +1,23 @@
 //! A batch, run.
 
-ghost use Rattle.std.specs.Prelude.{◌≡◌, ◌≢◌, ◌<◌, ◌≤◌, Err, IfOk, false, true};
+ghost use Rattle.std.specs.Prelude.{◌≡◌, ◌≢◌, ◌<◌, ◌≤◌, Err, IfErr, IfOk, false, true};
 ghost use Rattle.words.specs.Passes.{IsPassOf};
+ghost use Rattle.filling.specs.Finished.{IsFinished};
+ghost use Rattle.engine.specs.Known.{AreKnown};
+ghost use Rattle.engine.specs.RunState.{IsBookState};
+ghost use Rattle.workers.specs.Faults.{IsRunFault};
 ghost use Rattle.workers.specs.Working.{KnowsAll};
 
 use filling::{Finished, RangeKey, finish, open};
 use filling_base::Batch;
+use grants::Book;
+use line_io::EngineFault;
 use log_batch::LogBatch;
 use std::alloc::Global;
 use std::sync::Wait;
 use std::thread::Threads;
 use words::Pass;
-use workers::{Gate, RunFault, Workers, run_workers};
+use workers::{Gate, Workers, run_workers};
 
 /// The pass, which knows all places done, and knows from now on that all is placed too.
 fn settled(batch: &Batch<RangeKey<'_>>, pass: Pass) -> Pass
@@ -28,22 +34,25 @@ fn settled(batch: &Batch<RangeKey<'_>>, pass: Pass) -> Pass
     pass
 }
 
-/// Places and runs all places of a batch that isn't placed, on shared words, by this many workers, of which this thread is the first: each
-/// has then what its place in the log results in, and what its revocation ended, whatever the workers do in which order, and also while
-/// others still place. An error is out of memory, of any of the workers or of the batch itself, or a worker's thread that could not be
-/// started. No thread runs any more afterwards.
-pub fn execute<'a, R: Threads + Wait + Sync, G: Gate + Sync>(
+/// Places and runs all places of a batch that isn't placed, on shared words, by this many workers, of which this thread is the first, and
+/// returns what they result in after the book before it, whatever the workers do in which order. An error is out of memory, or a
+/// worker's thread that could not be started. No thread runs any more afterwards.
+pub fn execute<R: Threads + Wait + Sync, G: Gate + Sync>(
     rt: &R,
     alloc: Global,
-    batch: LogBatch<'a>,
+    book: &Book,
+    batch: LogBatch<'_>,
     gate: &G,
     workers: usize,
-) -> Result<Finished<'a>, RunFault>
+) -> Result<Finished, EngineFault>
     requires open { batch.placed ≡ false }
     requires some { 0 < batch.size }
-    ensures done { IfOk result (λ done. done ≡ record { log = batch.entry.log; first = batch.entry.first; size = batch.entry.size }) }
+    requires known { AreKnown batch.log.statements }
+    requires stands { IsBookState batch.log.statements batch.first book.now }
+    ensures done { IfOk result (λ done. IsFinished batch.entry.log.statements batch.entry.first batch.entry.size book.now done) }
+    ensures fault { IfErr result IsRunFault }
     // One worker starts no thread.
-    ensures alone { workers ≤ 1 → result ≢ Err RunFault.Spawn }
+    ensures alone { workers ≤ 1 → result ≢ Err EngineFault.Spawn }
 {
     let start = batch.first_place();
     let (words, pass, placers) = open(alloc, batch)?;
@@ -54,8 +63,8 @@ pub fn execute<'a, R: Threads + Wait + Sync, G: Gate + Sync>(
         count: workers,
     };
     let (pass, worked) = run_workers(&crew, &words, start, pass, placers);
-    worked.ended()?;
+    worked?;
     let pass = settled(&words, pass);
     let (key, closed) = words.close(pass);
-    Ok(finish(alloc, key, &closed)?)
+    Ok(finish(alloc, book, &key, &closed)?)
 }

@@ -5,7 +5,7 @@ ghost use Rattle.model_base.specs.Laws.{IsRising};
 ghost use Rattle.model_base.specs.Records.{recorded};
 ghost use Rattle.engine.specs.Grantees.{recorded_grantee, recorded_grantees};
 
-use crate::slots::slot_in;
+use filling::slot_in;
 use model_base::{Grantee, Record, RecordName};
 use std::alloc::{AllocError, Global};
 

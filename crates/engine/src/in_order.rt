@@ -17,12 +17,13 @@ ghost use Rattle.engine.specs.Known.{AreKnown, AreNamed};
 ghost use Rattle.engine.specs.RunState.{IsBookState, IsRunState};
 ghost use Rattle.engine.specs.Running.{AddsFrom, HasRun, IsKeptPlace, IsNextPlace, IsNextRange};
 
-use crate::booking::{create, creates, make_deeds};
+use crate::booking::{create, make_deeds};
 use crate::remembering::RememberingBook;
 use crate::state::RunState;
 use body::{BodyEnd, Window, run, shows_rows};
 use chains::Chains;
 use checker::Admission;
+use filling::creates;
 use model_base::{MOST_ACCESSES, Outcome, Place, Statement};
 use sequencer::LogTail;
 use std::alloc::{AllocError, Global};

@@ -11,26 +11,23 @@
 #![tactic(auto)]
 
 mod booking;
-mod changes;
 mod commit;
 mod crew;
 mod executing;
 mod grantees;
 mod held;
 mod in_order;
+mod line_log;
 mod remembering;
 mod run;
-mod slots;
 mod state;
 
-pub use changes::BookChanges;
 pub use commit::advance;
 pub use crew::Crew;
 pub use executing::execute;
+pub use filling::slot_in;
 pub use in_order::run_in_order;
 pub use line_io::EngineFault;
 pub use remembering::RememberingBook;
 pub use run::Engine;
-pub use slots::slot_in;
 pub use state::RunState;
-pub use workers::RunFault;

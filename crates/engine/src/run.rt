@@ -1,8 +1,10 @@
 //! A log of which a beginning is finished.
 
-ghost use Rattle.std.specs.Prelude.{◌≡◌, ◌≢◌, ◌<◌, ◌≤◌, ◌+◌, ◌++◌, Err, IfOk, OnErr, OnOk, false, length};
+ghost use Rattle.std.specs.Prelude.{◌≡◌, ◌≢◌, ◌<◌, ◌≤◌, ◌+◌, ◌-◌, ◌++◌, Err, IfErr, IfOk, OnErr, OnOk, false, length};
 ghost use Rattle.log_batch.specs.Supplied.{log_range};
+ghost use Rattle.filling.specs.Finished.{IsFinished};
 ghost use Rattle.engine.specs.Known.{AreKnown, AreNamed};
+ghost use Rattle.workers.specs.Faults.{IsRunFault};
 ghost use Rattle.engine.specs.Running.{HasRun, IsNextRange};
 
 use crate::commit::advance;
@@ -14,7 +16,7 @@ use crate::remembering::RememberingBook;
 use crate::state::RunState;
 use body::Window;
 use chains::{BadMark, Chains, Trimmed};
-use filling::{DecodedBatch, take};
+use filling::Finished;
 use grants::Book;
 use line_io::EngineFault;
 use log_batch::{BatchRange, LogBatch, StateBefore};
@@ -29,7 +31,7 @@ use std::marker::Model;
 use std::ops::Range;
 use std::sync::Wait;
 use std::thread::Threads;
-use workers::{Gate, NoGate, RunFault};
+use workers::{Gate, NoGate};
 
 /// A log, the outcomes of its finished places, and what comes after these: the versions of rows and the book of grants. What was finished
 /// may be forgotten, statements and outcomes both; rows and book stay.
@@ -102,6 +104,33 @@ fn open_range<'a>(
     LogBatch::open(alloc, places)
 }
 
+/// What the places of a range result in, which has some, after a run on shared words.
+#[tactic(auto, using(crate::proofs::Executed::finished_range))]
+fn execute_range<T: Threads + Wait + Sync, G: Gate + Sync>(
+    runner: &Runner<'_, T, G>,
+    state: &RunState,
+    log: &LogTail,
+    range: Range<Place>,
+) -> Result<Finished, EngineFault>
+    requires partitions { 0 < runner.now.crew.partitions }
+    requires some { range.start < range.end }
+    requires next { IsNextRange log.now range.start range.end state.now }
+    requires known { AreKnown log.now.log.statements }
+    ensures done { IfOk result (λ done. IsFinished log.now.log.statements range.start (range.end - range.start) state.now.book done) }
+    ensures fault { IfErr result IsRunFault }
+{
+    let Runner {
+        rt,
+        alloc,
+        crew,
+        gate,
+    } = *runner;
+    let partitions = crew.partitions.min(MOST_PARTITIONS);
+    let batch = open_range(alloc, log, state, range, partitions)?;
+    let done = execute(rt, alloc, state.book.book(), batch, gate, crew.workers)?;
+    Ok(done)
+}
+
 /// Runs the places of a range: in order, on this thread, where there is one worker, and as a batch on shared words else. Appends their
 /// outcomes; the state is the one before the range's end then. After an error state and outcomes are as they were.
 fn run_range<T: Threads + Wait + Sync, G: Gate + Sync>(
@@ -110,7 +139,7 @@ fn run_range<T: Threads + Wait + Sync, G: Gate + Sync>(
     log: &LogTail,
     range: Range<Place>,
     outcomes: &mut Vec<Outcome>,
-) -> Result<(), RunFault>
+) -> Result<(), EngineFault>
     requires partitions { 0 < runner.now.crew.partitions }
     requires next { IsNextRange log.now range.start range.end state.old }
     requires known { AreKnown log.now.log.statements }
@@ -119,7 +148,8 @@ fn run_range<T: Threads + Wait + Sync, G: Gate + Sync>(
         outcomes.old.items outcomes.new.items) }
     ensures state { OnErr result (state.new ≡ state.old) }
     ensures outcomes { OnErr result (outcomes.new.items ≡ outcomes.old.items) }
-    ensures alone { runner.now.crew.workers ≤ 1 → result ≢ Err RunFault.Spawn }
+    ensures fault { IfErr result IsRunFault }
+    ensures alone { runner.now.crew.workers ≤ 1 → result ≢ Err EngineFault.Spawn }
 {
     let Runner {
         rt,
@@ -131,32 +161,24 @@ fn run_range<T: Threads + Wait + Sync, G: Gate + Sync>(
     if crew.workers <= 1 || start == end {
         return match run_in_order(alloc, state, log, range, gate, outcomes) {
             Ok(()) => Ok(()),
-            Err(_refused) => Err(RunFault::NoMemory),
+            Err(_refused) => Err(EngineFault::NoMemory),
         };
     }
-    let DecodedBatch {
-        outcomes: mut came,
-        versions,
-    } = {
-        let partitions = crew.partitions.min(MOST_PARTITIONS);
-        let batch = open_range(alloc, log, state, start..end, partitions)?;
-        let done = execute(rt, alloc, batch, gate, crew.workers)?;
-        take(alloc, log, &done, start..end)?
-    };
+    let mut done = execute_range(runner, state, log, start..end)?;
     let before = outcomes.len();
-    outcomes.append(&mut came)?;
-    let moved = advance(alloc, state, log, &outcomes[before..], versions, start..end);
+    outcomes.append(&mut done.outcomes)?;
+    let moved = advance(state, log, done, start..end);
     match moved {
         Ok(()) => Ok(()),
         Err(_refused) => {
             outcomes.truncate(before);
-            Err(RunFault::NoMemory)
+            Err(EngineFault::NoMemory)
         }
     }
 }
 
 impl Engine {
-    ghost use Rattle.std.specs.Prelude.{◌↔◌, ◌⊎◌, ◌||◌, false, Option, None, Some, IfErr, IfOk, OnErr, OnOk, drop, is_err, map, nat_lt};
+    ghost use Rattle.std.specs.Prelude.{◌↔◌, ◌⊎◌, ◌||◌, false, Option, None, Some, IfOk, OnErr, OnOk, drop, is_err, map, nat_lt};
     ghost use Rattle.std.specs.Option.{MatchOption};
     ghost use Rattle.model_base.specs.Outcomes.{deeds_before, outcome, owners, rows_before};
     ghost use Rattle.model_base.specs.RecordGrantees.{WereGranted, grantee_at};
@@ -286,13 +308,14 @@ impl Engine {
         end: Place,
         crew: Crew,
         gate: &G,
-    ) -> Result<(), RunFault>
+    ) -> Result<(), EngineFault>
         requires partitions { 0 < crew.partitions }
         requires order { finished self.old ≤ end }
         requires within { end ≤ length self.old.log.statements }
         ensures runs { RunsTo end result self.old self.new }
+        ensures fault { IfErr result IsRunFault }
         // One worker starts no thread.
-        ensures alone { crew.workers ≤ 1 → result ≢ Err RunFault.Spawn }
+        ensures alone { crew.workers ≤ 1 → result ≢ Err EngineFault.Spawn }
     {
         let start = self.finished();
         let _len = self.log.len();
@@ -378,7 +401,7 @@ impl Engine {
         gate: &G,
     ) -> Result<(), EngineFault>
         ensures bad { (result ≡ Err EngineFault.BadSettings) ↔ (may_run self.old range.start range.end crew ≡ false) }
-        ensures fault { IfErr result (λ f. (f ≡ EngineFault.BadSettings) ⊎ (f ≡ EngineFault.NoMemory) ⊎ (f ≡ EngineFault.Spawn)) }
+        ensures fault { IfErr result (λ f. (f ≡ EngineFault.BadSettings) ⊎ IsRunFault f) }
         ensures alone { crew.workers ≤ 1 → result ≢ Err EngineFault.Spawn }
         ensures runs { RunsTo range.end result self.old self.new }
     {

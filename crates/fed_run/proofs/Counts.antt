@@ -37,7 +37,7 @@ outcomes-count names [] = refl
 outcomes-count names (reading ∷ readings) = ap suc (outcomes-count (names_with names reading) readings)
 
 -- no more lines were reported or wait than bytes were given
-pub lines_few : (run : FedRun) (given written : List ℕ) → IsFed run given written → run.lines + length run.order.waiting ≤ length given
+pub lines_few : (run : FedRun) (given written : List ℕ) → IsFed run given written → run.run.lines + length run.run.waiting.items ≤ length given
 lines_few run given written stands =
     let so = stands.reached [] (λ told. refl) in
     let taken : List ℕ = so.leads.taken ++ [] in
@@ -50,7 +50,7 @@ lines_few run given written stands =
       lines-few taken,
       ap length so.made.each,
       outcomes-count no_names so.earlier,
-      length-append so.reported run.order.waiting,
+      length-append so.reported run.run.waiting.items,
       length-append so.earlier [],
       length-append so.leads.taken [],
       ap length so.leads.all,

@@ -58,17 +58,17 @@ answers_text input log earlier later lines question text whole rest are reads ma
     )
 
 -- whatever comes, what explains a place of the log that was taken explains it
-pub fed_explains : (run : FedRun) (place : ℕ) (lines : List Line) (text : List ℕ) → explained run.order.run.log.statements place ≡ Some lines
-    → text ≡ place_text run.order.run.log.statements run.order.run.log.names place ++ explanation_text run.order.run.log.statements run.order.run.log.names lines
+pub fed_explains : (run : FedRun) (place : ℕ) (lines : List Line) (text : List ℕ) → explained run.run.engine.log.statements place ≡ Some lines
+    → text ≡ place_text run.run.engine.log.statements run.run.engine.log.names place ++ explanation_text run.run.engine.log.statements run.run.engine.log.names lines
     → TextExplains run place text
 fed_explains run place lines text is told = λ input written future stands may.
     let so = stands.reached future may in
     let rest : List (List ℕ) = lines_of (stands.tail ++ future) in
     let later = readings_from total_in (length so.earlier == 0) (names_after no_names so.earlier).version rest in
-    let log : Accepted = run.order.run.log in
+    let log : Accepted = run.run.engine.log in
     let question : Question = record { place = place; is_checked = false } in
     let whole_text : List ℕ = place_text log.statements log.names place ++ explanation_text log.statements log.names lines in
-    answers_text (input ++ future) log so.earlier later.0 (so.reported ++ run.order.waiting) question text so.whole rest later.1 (read_before (input ++ future) (stands.tail ++ future) so.earlier so.leads later.0 later.1) so.made
+    answers_text (input ++ future) log so.earlier later.0 (so.reported ++ run.run.waiting.items) question text so.whole rest later.1 (read_before (input ++ future) (stands.tail ++ future) so.earlier so.leads later.0 later.1) so.made
     (record {
       lines = lines;
       explaining = is;

@@ -5,8 +5,8 @@ use Rattle.report.specs.Report.{IsReport}
 use Rattle.std.proofs.lemmas.List.{append-nil, length-append, length-drop, length-take-le, take-append-drop}
 use Rattle.std.proofs.lemmas.Slice.{take-put_mid}
 use borrow.Rule.Slice.PartMut.{put_mid}
-use Rattle.fed_run.specs.Progress.{Progress}
-use Rattle.fed_run.specs.Stands.{Feeds, FeedsInto, Gives, IsGivenOut, IsFed, TakesBytes, unsent}
+use Rattle.batched_text.specs.Batching.{KeepsLines}
+use Rattle.fed_run.specs.Stands.{Feeds, Gives, IsGivenOut, IsFed, TakesBytes, unsent}
 use Rattle.fed_run.specs.declared.fed.FedRun.{FedRun}
 use Rattle.fed_run.proofs.FedTexts.{report_given, stands_given, stands_told}
 
@@ -74,9 +74,9 @@ on_ok (Err e) p then = tt
 -- waiting bytes were given
 pub gives_more : (old new : FedRun) (out copied : List ℕ) (made count : ℕ) → made ≤ length out → made + count ≤ length out → count ≤ length (unsent old)
     → copied ≡ take count (unsent old) → unsent new ≡ drop count (unsent old)
-    → new.begun.items ≡ old.begun.items → new.is_ended ≡ old.is_ended → new.order ≡ old.order → new.lines ≡ old.lines
+    → new.begun.items ≡ old.begun.items → new.is_ended ≡ old.is_ended → KeepsLines old.run new.run
     → Gives old new out (put_mid made (made + count - made) out copied) made (made + count)
-gives_more old new out copied made count before within few is left begun ended order lines =
+gives_more old new out copied made count before within few is left begun ended keeps =
     let long : length copied ≡ count = ap length is ∙ length-take-le count (unsent old) few in
     let size : made + count - made ≡ count = omega arith in
     let whole : length (put_mid made (made + count - made) out copied) ≡ length out =
@@ -101,8 +101,7 @@ gives_more old new out copied made count before within few is left begun ended o
       len = whole;
       stands = λ input written so.
           subst (IsFed new input) (append_assoc written (take made out) copied ∙ ap (λ (w : List ℕ). written ++ w) (sym front))
-          (stands_given old new begun ended (ap (λ (p : Progress). p.run.log) order) (ap (λ (p : Progress). p.reported) order) (ap (λ (p : Progress). p.waiting) order) lines
-          copied all input (written ++ take made out) so);
+          (stands_given old new begun ended keeps copied all input (written ++ take made out) so);
       ended = ended;
     }
 
@@ -173,59 +172,17 @@ feeds_last input out_old out_new old mid next new used made_old made_new feeds s
 
 -- the text was ended first
 module _ (out : List ℕ) (old mid new : FedRun) (used made : ℕ) (feeds : Feeds [] out mid new used made) (begun : mid.begun.items ≡ old.begun.items)
-    (ended : mid.is_ended ≡ true) (order : mid.order ≡ old.order) (unsent_is : unsent mid ≡ unsent old) (lines : mid.lines ≡ old.lines) where
+    (ended : mid.is_ended ≡ true) (same_run : mid.run ≡ old.run) (unsent_is : unsent mid ≡ unsent old) where
   pub told_stands : (text written : List ℕ) → IsFed old text written → IsFed new text (written ++ take made out)
   told_stands text written stands =
-      feeds_nothing out mid new used made feeds text written (stands_told old mid begun ended order unsent_is lines text written stands)
+      feeds_nothing out mid new used made feeds text written (stands_told old mid begun ended same_run unsent_is text written stands)
 
   on_told : {T E : Type 0} (r : Result T E) (size : ℕ)
       → OnOk r (made < size → (text written : List ℕ) → IsFed mid text written → IsReport text (written ++ take made out))
       → OnOk r (made < size → (text written : List ℕ) → IsFed old text written → IsReport text (written ++ take made out))
   on_told (Err e) size is = tt
-  on_told (Ok x) size is = λ room text written stands. is room text written (stands_told old mid begun ended order unsent_is lines text written stands)
+  on_told (Ok x) size is = λ room text written stands. is room text written (stands_told old mid begun ended same_run unsent_is text written stands)
 
   pub told_reports : {T E : Type 0} (r : Result T E) (size : ℕ) → OnOk r (IsGivenOut new out made) → OnOk r (unsent new ≡ [] → new.begun.items ≡ []) → length out ≡ size
       → OnOk r (made < size → (text written : List ℕ) → IsFed old text written → IsReport text (written ++ take made out))
   told_reports r size settled none same = on_told r size (reports r mid new out size used made feeds settled none same)
-
--- no byte was taken yet, and nothing made
-pub into_none : (input pending : List ℕ) (run : FedRun) → FeedsInto input run run pending pending 0
-into_none input pending run = record {
-  within = omega arith;
-  stands = λ text written so. subst (λ (w : List ℕ). IsFed run w (written ++ pending)) (sym (append-nil text)) so;
-  ended = refl;
-}
-
-module _ (input : List ℕ) (old mid : FedRun) (before pending : List ℕ) (used : ℕ) (feeds : FeedsInto input old mid before pending used) where
-  -- lines were taken
-  pub into_takes : (new : FedRun) (now : ℕ) → TakesBytes input mid new used now → new.is_ended ≡ mid.is_ended → FeedsInto input old new before pending now
-  into_takes new now takes ended = record {
-    within = takes.within;
-    stands = λ text written so. takes.stands text (written ++ pending) (feeds.stands text written so);
-    ended = ended ∙ feeds.ended;
-  }
-
-  -- what was made is pending
-  pub into_pending : (new : FedRun) (more : List ℕ) → ((text written : List ℕ) → IsFed mid text (written ++ pending) → IsFed new text (written ++ more))
-      → new.is_ended ≡ mid.is_ended → FeedsInto input old new before more used
-  into_pending new more stands ended = record {
-    within = feeds.within;
-    stands = λ text written so. stands (text ++ take used input) written (feeds.stands text written so);
-    ended = ended ∙ feeds.ended;
-  }
-
-  -- all was taken
-  pub into_all : length input ≤ used → FeedsInto input old mid before pending (length input)
-  into_all all =
-      let same : used ≡ length input = omega (arith, feeds.within) in
-      subst (FeedsInto input old mid before pending) same feeds
-
--- what waited to be given is pending
-pub stands_moved : (old new : FedRun) (before after : List ℕ) → unsent new ≡ [] → after ≡ before ++ unsent old → new.begun.items ≡ old.begun.items
-    → new.is_ended ≡ old.is_ended → new.order ≡ old.order → new.lines ≡ old.lines → (input written : List ℕ) → IsFed old input (written ++ before)
-    → IsFed new input (written ++ after)
-stands_moved old new before after none moved begun ended order lines input written so =
-    let all : unsent old ++ unsent new ≡ unsent old = ap (λ (w : List ℕ). unsent old ++ w) none ∙ append-nil (unsent old) in
-    subst (IsFed new input) (append_assoc written before (unsent old) ∙ ap (λ (w : List ℕ). written ++ w) (sym moved))
-    (stands_given old new begun ended (ap (λ (p : Progress). p.run.log) order) (ap (λ (p : Progress). p.reported) order) (ap (λ (p : Progress). p.waiting) order) lines
-    (unsent old) all input (written ++ before) so)

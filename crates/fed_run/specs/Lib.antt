@@ -1,4 +1,3 @@
-pub mod Between
 pub mod Faults
-pub mod Progress
+pub mod Kept
 pub mod Stands

@@ -4,6 +4,7 @@ ghost use Rattle.std.specs.Prelude.{◌≡◌};
 ghost use Rattle.fed_run.specs.declared.fault.FeedFault.TheVariants.{NoMemory};
 ghost use Rattle.fed_run.specs.Faults.{feed_fault_text};
 
+use line_io::EngineFault;
 use std::alloc::AllocError;
 use std::fmt;
 use thiserror::Error;
@@ -37,6 +38,15 @@ impl From<AllocError> for FeedFault {
     ghost from_gives = { λ _ e. e ≡ NoMemory };
 
     fn from(_e: AllocError) -> FeedFault {
+        FeedFault::NoMemory
+    }
+}
+
+/// Of a run in order, on the calling thread, a call fails where memory runs out, and nowhere else.
+impl From<EngineFault> for FeedFault {
+    ghost from_gives = { λ _ e. e ≡ NoMemory };
+
+    fn from(_fault: EngineFault) -> FeedFault {
         FeedFault::NoMemory
     }
 }

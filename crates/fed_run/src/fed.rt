@@ -1,14 +1,18 @@
 //! A run that is fed piece by piece.
 
-ghost use Rattle.std.specs.Prelude.{◌≡◌, ◌≤◌, ◌<◌, ◌+◌, ◌++◌, ◌∷◌, ◌^◌, ◌↔◌, ◌==◌, ℕ, [], List, Err, IfErr, IfOk, Ok, OnErr, OnOk, false, true, drop, length, take};
+ghost use Rattle.std.specs.Prelude.{◌≡◌, ◌≤◌, ◌<◌, ◌+◌, ◌++◌, ◌^◌, ◌↔◌, ◌==◌, ℕ, [], List, Err, IfErr, IfOk, OnErr, OnOk, false, true, length, take};
 ghost use Rattle.line_io.specs.declared.limits.TheConstants.{KEPT_BYTES};
 ghost use Rattle.report.specs.Report.{IsReport};
-ghost use Rattle.sequencer.specs.Whole.{IsWhole};
+ghost use Rattle.std.proofs.Props.{props};
+ghost use Rattle.batched_text.specs.Batching.{IsSteady};
+ghost use Rattle.batched_text.specs.History.{last_places, plan_in_order};
+ghost use Rattle.fed_run.specs.Kept.{kept-prop};
 
 use crate::fault::FeedFault;
-use crate::in_order::InOrder;
 use crate::keeping::keep_more;
-use explain::ExplainFault;
+use audit_text::put_explanation;
+use batched_text::{Alone, LineRun, Runner, put_place};
+use explain::{ExplainFault, explain, explanations_name_earlier_grants};
 use line_io::{KEPT_BYTES, cut_line};
 use log_text::LineBuffers;
 use model_base::{HashSeed, Place};
@@ -28,24 +32,25 @@ pub struct Step {
 /// and statements and outcomes of the last places.
 #[derive(Drop)]
 pub struct FedRun {
-    order: InOrder,
-    /// How many lines were reported.
-    lines: u64,
+    run: LineRun,
+    /// Of how many of the last places statements and outcomes are kept at least.
+    keep: u64,
     /// Of the line that has begun its first `KEPT_BYTES`.
     begun: Vec<u8>,
-    /// The report's lines for the last lines.
-    text: Vec<u8>,
-    /// How many bytes of it were given.
+    /// How many of the pending bytes of the report were given.
     sent: usize,
     /// Whether the text was ended.
     is_ended: bool,
-    ghost within: { sent ≤ length text.items },
+    ghost within: { sent ≤ length run.pending.items },
+    ghost steady: { IsSteady (plan_in_order (last_places keep)) run } by { Prim.hlevel (props, kept-prop) },
 }
 
 impl FedRun {
-    ghost use Rattle.fed_run.specs.Progress.{ReadsAndTakes};
-    ghost use Rattle.fed_run.specs.Stands.{Feeds, FeedsInto, Gives, IsFed, IsGivenOut, IsUnfed, NothingWaits, TakesBytes};
-    ghost use Rattle.fed_run.specs.Stands.{TextExplains, next_line, unsent};
+    ghost use Rattle.report.specs.Report.{ParsedLine};
+    ghost use Rattle.bohm_base.specs.Collecting.{ReadsAs};
+    ghost use Rattle.batched_text.specs.Batching.{HasRoomForLine, Takes, TakesNothing, next_line};
+    ghost use Rattle.batched_text.specs.Foretold.{log_names};
+    ghost use Rattle.fed_run.specs.Stands.{Feeds, Gives, IsFed, IsGivenOut, IsUnfed, KeepsLast, TakesBytes, TextExplains, unsent};
 
     /// Before the first byte. It doesn't allocate.
     pub fn new(alloc: Global) -> FedRun
@@ -59,13 +64,11 @@ impl FedRun {
     pub fn seeded(alloc: Global, seed: HashSeed) -> FedRun
         ensures stands { IsFed result [] [] }
         ensures open { result.is_ended ≡ false }
-        ensures settled { NothingWaits result }
     {
         FedRun {
-            order: InOrder::seeded(alloc, seed),
-            lines: 0,
+            run: LineRun::seeded(alloc, seed),
+            keep: 0,
             begun: Vec::new(alloc),
-            text: Vec::new(alloc),
             sent: 0,
             is_ended: false,
         }
@@ -75,17 +78,17 @@ impl FedRun {
     /// was taken or the end of the text was given.
     pub fn set_keep(&mut self, keep: u64) -> bool
         ensures fresh { (result ≡ true) ↔ IsUnfed self.old }
-        ensures set { result ≡ true → self.new ≡ record self.old { order = record self.old.order { keep = keep } } }
+        ensures set { result ≡ true → KeepsLast keep self.old self.new }
         ensures stands { (input written : List ℕ) → IsFed self.old input written → IsFed self.new input written }
         ensures still { result ≡ false → self.new ≡ self.old }
     {
-        if self.lines > 0 || self.order.places() > 0 || self.order.waiting() > 0 {
+        if self.run.lines() > 0 || self.places() > 0 || self.run.waiting() > 0 {
             return false;
         }
         if !self.begun.is_empty() || self.is_ended {
             return false;
         }
-        self.order.set_keep(keep);
+        self.keep = keep;
         true
     }
 
@@ -101,39 +104,48 @@ impl FedRun {
         requires { text.old.items ≡ [] }
         // It is the explanation of the place of each text that begins with what was taken.
         ensures told { OnOk result (TextExplains self.now place text.new.items) }
-        ensures none { (result ≡ Err ExplainFault.NoSuchPlace) ↔ (self.now.order.reported ≤ place) }
-        ensures forgotten { result ≡ Err ExplainFault.Forgotten → place + self.now.order.keep < self.now.order.reported }
+        ensures none { (result ≡ Err ExplainFault.NoSuchPlace) ↔ (self.now.run.reported ≤ place) }
+        ensures forgotten { result ≡ Err ExplainFault.Forgotten → place + self.now.keep < self.now.run.reported }
         ensures finished { result ≡ Err ExplainFault.NotFinished → ⊥ }
     {
-        self.order.put_explained(alloc, place, text)
+        if place >= self.run.reported() {
+            return Err(ExplainFault::NoSuchPlace);
+        }
+        explanations_name_earlier_grants();
+        let engine = self.run.engine();
+        let _finished = engine.finished();
+        let found = explain(alloc, engine, place)?;
+        put_place(alloc, text, engine, place)?;
+        put_explanation(alloc, text, engine, &found)?;
+        Ok(())
     }
 
     /// How many lines were reported, with a heading, which has no line of the report.
     pub fn lines(&self) -> u64
-        ensures { result ≡ self.now.lines }
+        ensures { result ≡ self.now.run.lines }
     {
-        self.lines
+        self.run.lines()
     }
 
     /// How many statements were accepted: the next place.
     pub fn places(&self) -> Place
-        ensures { result ≡ length self.now.order.run.log.statements }
+        ensures { result ≡ length self.now.run.engine.log.statements }
     {
-        self.order.places()
+        self.run.engine().log().len()
     }
 
     /// How many bytes of the report wait to be given.
     pub fn waiting(&self) -> usize
         ensures { result ≡ length (unsent self.now) }
     {
-        self.text.len() - self.sent
+        self.run.pending.len() - self.sent
     }
 
     /// The bytes of the report that wait to be given.
     fn rest(&self) -> &[u8]
         ensures { result.now ≡ unsent self.now }
     {
-        &self.text[self.sent..]
+        &self.run.pending[self.sent..]
     }
 
     /// Gives as many waiting bytes as there is room for after the first `made` bytes of `out`, and returns how many bytes of it are made
@@ -142,8 +154,9 @@ impl FedRun {
         requires { made ≤ length out.old }
         ensures gives { Gives self.old self.new out.old out.new made result }
         ensures full { result < length out.old → unsent self.new ≡ [] }
-        ensures order { self.new.order ≡ self.old.order }
+        ensures order { self.new.run ≡ self.old.run }
         ensures begun { self.new.begun.items ≡ self.old.begun.items }
+        ensures keep { self.new.keep ≡ self.old.keep }
     {
         let rest = self.rest();
         let count = rest.len().min(out.len() - made);
@@ -156,33 +169,22 @@ impl FedRun {
     fn settle(&mut self, alloc: Global) -> Result<(), FeedFault>
         requires { unsent self.old ≡ [] }
         ensures stands { (input written : List ℕ) → IsFed self.old input written → IsFed self.new input written }
-        ensures none { OnOk result (self.new.order.waiting ≡ []) }
+        ensures none { OnOk result (self.new.run.waiting.items ≡ []) }
         ensures nothing { OnErr result (unsent self.new ≡ []) }
         ensures open { result ≡ Err FeedFault.Ended → ⊥ }
-        ensures counted { result ≡ Err FeedFault.Full → 2 ^ 64 ≤ self.new.lines + length self.new.order.waiting + 1 }
+        ensures counted { result ≡ Err FeedFault.Full → 2 ^ 64 ≤ next_line self.new.run }
         ensures begun { self.new.begun.items ≡ self.old.begun.items }
         ensures ended { self.new.is_ended ≡ self.old.is_ended }
-        ensures keep { self.new.order.keep ≡ self.old.order.keep }
+        ensures keep { self.new.keep ≡ self.old.keep }
     {
-        let count = self.order.waiting();
-        if count == 0 {
+        if self.run.waiting() == 0 {
             return Ok(());
         }
-        let Some(next) = self.lines.checked_add(count as u64 + 1) else {
-            return Err(FeedFault::Full);
-        };
+        let runner = Runner::keeping_last(&Alone, alloc, self.keep);
         self.sent = 0;
-        self.text.clear();
-        match self.order.report(alloc, self.lines + 1, &mut self.text) {
-            Ok(()) => {
-                self.lines = next - 1;
-                Ok(())
-            }
-            Err(_refused) => {
-                self.text.clear();
-                Err(FeedFault::NoMemory)
-            }
-        }
+        self.run.pending.clear();
+        self.run.report(&runner)?;
+        Ok(())
     }
 
     /// Runs the lines that wait, as `settle`, and gives bytes of the report's lines for them, as `give`. On `Err` it gives none.
@@ -194,9 +196,9 @@ impl FedRun {
         ensures stands { OnErr result (Gives self.old self.new out.old out.new made made) }
         ensures nothing { OnErr result (unsent self.new ≡ []) }
         ensures open { result ≡ Err FeedFault.Ended → ⊥ }
-        ensures counted { result ≡ Err FeedFault.Full → 2 ^ 64 ≤ self.new.lines + length self.new.order.waiting + 1 }
+        ensures counted { result ≡ Err FeedFault.Full → 2 ^ 64 ≤ next_line self.new.run }
         ensures begun { self.new.begun.items ≡ self.old.begun.items }
-        ensures keep { self.new.order.keep ≡ self.old.order.keep }
+        ensures keep { self.new.keep ≡ self.old.keep }
     {
         self.settle(alloc)?;
         Ok(self.give(out, made))
@@ -209,9 +211,9 @@ impl FedRun {
         ensures settled { OnOk result (IsGivenOut self.new out.new step.new.made) }
         ensures nothing { OnErr result (unsent self.new ≡ []) }
         ensures open { result ≡ Err FeedFault.Ended → ⊥ }
-        ensures counted { result ≡ Err FeedFault.Full → 2 ^ 64 ≤ self.new.lines + length self.new.order.waiting + 1 }
+        ensures counted { result ≡ Err FeedFault.Full → 2 ^ 64 ≤ next_line self.new.run }
         ensures begun { self.new.begun.items ≡ self.old.begun.items }
-        ensures keep { self.new.order.keep ≡ self.old.order.keep }
+        ensures keep { self.new.keep ≡ self.old.keep }
     {
         step.made = self.give(out, 0);
         if self.waiting() > 0 {
@@ -219,13 +221,6 @@ impl FedRun {
         }
         step.made = self.make(alloc, out, step.made)?;
         Ok(())
-    }
-
-    /// Whether the line that comes next is the first one.
-    fn is_first(&self) -> bool
-        ensures { result ≡ (next_line self.now == 1) }
-    {
-        self.lines == 0 && self.order.waiting() == 0
     }
 
     /// Takes the line that has begun, if one has, and these bytes, which end the line.
@@ -237,27 +232,29 @@ impl FedRun {
         raw: &mut LineBuffers<'a>,
     ) -> Result<(), FeedFault>
         requires short { length end.now ≤ KEPT_BYTES }
-        ensures ok { OnOk result ((line : List ℕ) → self.old.begun.items ≡ take KEPT_BYTES line
-            → ReadsAndTakes (next_line self.old == 1) (take KEPT_BYTES (line ++ end.now)) self.old.order self.new.order) }
-        ensures whole { OnOk result (IsWhole self.new.order.run.log) }
+        requires room { HasRoomForLine (plan_in_order (last_places self.old.keep)) self.old.run }
+        ensures ok { OnOk result ((line : List ℕ) → self.old.begun.items ≡ take KEPT_BYTES line → (reading : ParsedLine)
+            × (ReadsAs (next_line self.old.run == 1) (log_names self.old.run).version (take KEPT_BYTES (line ++ end.now)) reading
+            × Takes reading self.old.run self.new.run)) }
         ensures begun { OnOk result (self.new.begun.items ≡ []) }
-        ensures order { OnErr result (self.new.order ≡ self.old.order) }
+        ensures still { OnErr result (TakesNothing self.old.run self.new.run) }
         ensures kept { OnErr result (self.new.begun.items ≡ self.old.begun.items) }
         ensures open { result ≡ Err FeedFault.Ended → ⊥ }
-        ensures counted { result ≡ Err FeedFault.Full → ⊥ }
-        ensures lines { self.new.lines ≡ self.old.lines }
+        ensures counted { result ≡ Err FeedFault.Full → 2 ^ 64 ≤ next_line self.new.run }
         ensures unsent { unsent self.new ≡ unsent self.old }
         ensures ended { self.new.is_ended ≡ self.old.is_ended }
-        ensures keep { self.new.order.keep ≡ self.old.order.keep }
+        ensures keep { self.new.keep ≡ self.old.keep }
     {
-        let is_first = self.is_first();
+        if !self.run.may_count() {
+            return Err(FeedFault::Full);
+        }
         if self.begun.is_empty() {
-            self.order.take(end, raw, is_first)?;
+            self.run.take(end, raw)?;
             return Ok(());
         }
         let before = self.begun.len();
         keep_more(&mut self.begun, end)?;
-        match self.order.take_alone(alloc, &self.begun, is_first) {
+        match self.run.take_alone(alloc, &self.begun) {
             Ok(()) => {
                 self.begun.clear();
                 Ok(())
@@ -279,15 +276,16 @@ impl FedRun {
     ) -> Result<usize, FeedFault>
         requires some { 0 < length bytes.now }
         requires open { self.old.is_ended ≡ false }
+        requires room { HasRoomForLine (plan_in_order (last_places self.old.keep)) self.old.run }
         ensures count { IfOk result (λ n. (0 < n) × (n ≤ length bytes.now)) }
         ensures stands { IfOk result (λ n. (input written : List ℕ) → IsFed self.old input written
             → IsFed self.new (input ++ take n bytes.now) written) }
         ensures err { OnErr result ((input written : List ℕ) → IsFed self.old input written → IsFed self.new input written) }
         ensures open { result ≡ Err FeedFault.Ended → ⊥ }
-        ensures counted { result ≡ Err FeedFault.Full → ⊥ }
+        ensures counted { result ≡ Err FeedFault.Full → 2 ^ 64 ≤ next_line self.new.run }
         ensures unsent { unsent self.new ≡ unsent self.old }
         ensures ended { self.new.is_ended ≡ self.old.is_ended }
-        ensures keep { self.new.order.keep ≡ self.old.order.keep }
+        ensures keep { self.new.keep ≡ self.old.keep }
     {
         match cut_line(bytes) {
             None => {
@@ -313,15 +311,16 @@ impl FedRun {
         requires open { self.old.is_ended ≡ false }
         requires within { step.old.used ≤ length input.now }
         ensures takes { TakesBytes input.now self.old self.new step.old.used step.new.used }
-        ensures some { OnOk result (self.old.order.waiting ≡ [] → step.old.used < length input.now → step.old.used < step.new.used) }
+        ensures some { OnOk result (self.old.run.waiting.items ≡ [] → step.old.used < length input.now → step.old.used < step.new.used) }
         ensures made { step.new.made ≡ step.old.made }
         ensures open { result ≡ Err FeedFault.Ended → ⊥ }
-        ensures counted { result ≡ Err FeedFault.Full → ⊥ }
+        ensures counted { result ≡ Err FeedFault.Full → 2 ^ 64 ≤ next_line self.new.run }
         ensures unsent { unsent self.new ≡ unsent self.old }
         ensures ended { self.new.is_ended ≡ self.old.is_ended }
-        ensures keep { self.new.order.keep ≡ self.old.order.keep }
+        ensures keep { self.new.keep ≡ self.old.keep }
     {
-        'lines: while step.used < input.len() && !self.order.is_full() {
+        let runner = Runner::keeping_last(&Alone, alloc, self.keep);
+        'lines: while step.used < input.len() && self.run.has_room(&runner) {
             step.used += self.take(alloc, &input[step.used..], raw)?;
         }
         Ok(())
@@ -343,8 +342,8 @@ impl FedRun {
         ensures all { OnOk result (unsent self.new ≡ [] → step.new.used ≡ length input.now) }
         ensures nothing { OnErr result (unsent self.new ≡ []) }
         ensures open { result ≡ Err FeedFault.Ended → ⊥ }
-        ensures counted { result ≡ Err FeedFault.Full → 2 ^ 64 ≤ self.new.lines + length self.new.order.waiting + 1 }
-        ensures keep { self.new.order.keep ≡ self.old.order.keep }
+        ensures counted { result ≡ Err FeedFault.Full → 2 ^ 64 ≤ next_line self.new.run }
+        ensures keep { self.new.keep ≡ self.old.keep }
     {
         self.start(alloc, out, step)?;
         let mut raw = LineBuffers::new(alloc);
@@ -378,9 +377,9 @@ impl FedRun {
             → (self.new ≡ self.old) × (out.new ≡ out.old) × (result.0.used ≡ 0) × (result.0.made ≡ 0) }
         ensures open { self.new.is_ended ≡ self.old.is_ended }
         // Full comes only where one line more couldn't be counted.
-        ensures counted { result.1 ≡ Err FeedFault.Full → 2 ^ 64 ≤ self.new.lines + length self.new.order.waiting + 1 }
+        ensures counted { result.1 ≡ Err FeedFault.Full → 2 ^ 64 ≤ next_line self.new.run }
         // As many of the last places are to be kept as before.
-        ensures keep { self.new.order.keep ≡ self.old.order.keep }
+        ensures keep { self.new.keep ≡ self.old.keep }
     {
         let mut step = Step { used: 0, made: 0 };
         if self.is_ended {
@@ -400,8 +399,8 @@ impl FedRun {
         ensures none { OnOk result (unsent self.new ≡ [] → self.new.begun.items ≡ []) }
         ensures nothing { OnErr result (unsent self.new ≡ []) }
         ensures open { result ≡ Err FeedFault.Ended → ⊥ }
-        ensures counted { result ≡ Err FeedFault.Full → 2 ^ 64 ≤ self.new.lines + length self.new.order.waiting + 1 }
-        ensures keep { self.new.order.keep ≡ self.old.order.keep }
+        ensures counted { result ≡ Err FeedFault.Full → 2 ^ 64 ≤ next_line self.new.run }
+        ensures keep { self.new.keep ≡ self.old.keep }
     {
         self.feed(alloc, &[], out, step)?;
         if self.waiting() > 0 {
@@ -427,75 +426,13 @@ impl FedRun {
             → IsReport text (written ++ take result.0 out.new)) }
         ensures lines { OnErr result.1 (unsent self.new ≡ []) }
         ensures open { result.1 ≡ Err FeedFault.Ended → ⊥ }
-        ensures counted { result.1 ≡ Err FeedFault.Full → 2 ^ 64 ≤ self.new.lines + length self.new.order.waiting + 1 }
+        ensures counted { result.1 ≡ Err FeedFault.Full → 2 ^ 64 ≤ next_line self.new.run }
         ensures ended { self.new.is_ended ≡ true }
-        ensures keep { self.new.order.keep ≡ self.old.order.keep }
+        ensures keep { self.new.keep ≡ self.old.keep }
     {
         self.is_ended = true;
         let mut step = Step { used: 0, made: 0 };
         let done = self.end(alloc, out, &mut step);
         (step.made, done)
-    }
-
-    /// Moves the bytes of the report that wait to be given to the end of `pending`. On `Err`, out of memory, they wait still.
-    fn move_rest(&mut self, pending: &mut Vec<u8>) -> Result<(), AllocError>
-        ensures stands { (input written : List ℕ) → IsFed self.old input (written ++ pending.old.items)
-            → IsFed self.new input (written ++ pending.new.items) }
-        ensures none { OnOk result (unsent self.new ≡ []) }
-        ensures order { self.new.order ≡ self.old.order }
-        ensures begun { self.new.begun.items ≡ self.old.begun.items }
-        ensures ended { self.new.is_ended ≡ self.old.is_ended }
-    {
-        pending.extend_from_slice(self.rest())?;
-        self.sent = self.text.len();
-        Ok(())
-    }
-
-    /// Takes all of the input, and appends the report's lines for the lines that end in it to `pending`. Lines are run up to 64 at once.
-    /// On `Err` a part of the input was taken, and the lines of a beginning of it are pending.
-    pub(crate) fn take_all(
-        &mut self,
-        alloc: Global,
-        input: &[u8],
-        pending: &mut Vec<u8>,
-    ) -> Result<(), FeedFault>
-        requires open { self.old.is_ended ≡ false }
-        requires settled { NothingWaits self.old }
-        ensures feeds { (used : ℕ) × FeedsInto input.now self.old self.new pending.old.items pending.new.items used }
-        ensures all { OnOk result (FeedsInto input.now self.old self.new pending.old.items pending.new.items (length input.now)) }
-        ensures settled { OnOk result (NothingWaits self.new) }
-        ensures open { result ≡ Err FeedFault.Ended → ⊥ }
-        ensures counted { result ≡ Err FeedFault.Full → 2 ^ 64 ≤ self.new.lines + length self.new.order.waiting + 1 }
-    {
-        let mut raw = LineBuffers::new(alloc);
-        let mut step = Step { used: 0, made: 0 };
-        'lines: while step.used < input.len() {
-            self.take_lines(alloc, input, &mut raw, &mut step)?;
-            self.settle(alloc)?;
-            self.move_rest(pending)?;
-        }
-        Ok(())
-    }
-
-    /// Ends the text, so that bytes after its last LF are a line too, and appends the report's line for it to `pending`. Then the report
-    /// is whole.
-    pub(crate) fn end_all(&mut self, alloc: Global, pending: &mut Vec<u8>) -> Result<(), FeedFault>
-        requires settled { NothingWaits self.old }
-        ensures stands { (text written : List ℕ) → IsFed self.old text (written ++ pending.old.items)
-            → IsFed self.new text (written ++ pending.new.items) }
-        ensures report { OnOk result ((text written : List ℕ) → IsFed self.old text (written ++ pending.old.items)
-            → IsReport text (written ++ pending.new.items)) }
-        ensures open { result ≡ Err FeedFault.Ended → ⊥ }
-        ensures counted { result ≡ Err FeedFault.Full → 2 ^ 64 ≤ self.new.lines + length self.new.order.waiting + 1 }
-    {
-        self.is_ended = true;
-        if self.begun.is_empty() {
-            return Ok(());
-        }
-        let mut room = LineBuffers::new(alloc);
-        self.take_line(alloc, &[], &mut room)?;
-        self.settle(alloc)?;
-        self.move_rest(pending)?;
-        Ok(())
     }
 }

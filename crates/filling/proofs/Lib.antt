@@ -18,3 +18,9 @@ pub mod Told
 pub mod CellsTold
 pub mod Ranges
 pub mod Revokes
+pub mod Cutting
+pub mod Stepping
+pub mod Making
+pub mod Lying
+pub mod NoDeeds
+pub mod Changing

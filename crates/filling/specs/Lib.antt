@@ -9,5 +9,7 @@ pub mod Lists
 pub mod Ends
 pub mod BatchProgress
 pub mod Finished
-pub mod FinishedRange
 pub mod Cells
+pub mod Known
+pub mod BookState
+pub mod Changes

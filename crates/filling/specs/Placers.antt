@@ -1,7 +1,8 @@
 -- A placer of a batch of a log. Each partition is gone through in the order of the log, without a look at another one: J. M.
 -- Faleiro and D. J. Abadi, "Rethinking Serializable Multiversion Concurrency Control", PVLDB 8 (2015), section 3. That places
 -- are run while later ones are still placed is this project's own.
-use Rattle.std.specs.Prelude.{◌≡◌, ◌<◌, ◌≤◌, ◌+◌, ℕ, Some, List, length, slice_get}
+use Rattle.std.specs.Prelude.{◌≡◌, ◌<◌, ◌≤◌, ◌+◌, ℕ, Option, None, Some, Result, Ok, Err, List, length, slice_get}
+use Rattle.std.specs.declared.alloc.AllocError.{AllocError}
 use Rattle.std.specs.List.{range_with_len}
 use Rattle.model_base.specs.declared.statement.Statement.{Statement}
 use Rattle.placing.specs.declared.latest.Latest.{Latest}
@@ -15,8 +16,6 @@ use Rattle.words.specs.Layout.{partition_at}
 use Rattle.words.specs.Passes.{IsPlacerOf, PlacerState, Words, placed_on}
 use Rattle.words.specs.Views.{In, front_in, placer_view, with_placing}
 use Rattle.filling.specs.declared.placer.Placer.{Placer}
-use Rattle.filling_base.specs.declared.placer.Advanced.{Advanced}
-use Rattle.filling_base.specs.declared.placer.Advanced.TheVariants.{Next, End, NoMemory}
 
 -- how many places it has placed, which is the index of the one that it places next
 abbrev pub placer_front : Placer → ℕ
@@ -46,12 +45,12 @@ with_all_cut view partitions = record view { cut = range_with_len 0 partitions }
 
 -- the outcome of a step: the place at the front was placed, or there was none any more, or memory ran out, and then neither the words
 -- nor the place at the front are others
-abbrev pub AdvancedMeans : LogRange → Placer → Advanced → Placer → Type 0
-AdvancedMeans ranged placer (Next place) after =
+abbrev pub AdvancedMeans : LogRange → Placer → Result (Option ℕ) AllocError → Placer → Type 0
+AdvancedMeans ranged placer (Ok (Some place)) after =
     (placer_front placer < ranged.size) × (place ≡ ranged.first + placer_front placer)
     × (after.token ≡ placed_on placer.token (with_placing placer.token.view))
-AdvancedMeans ranged placer End after = (placer_front placer ≡ ranged.size) × (after ≡ placer)
-AdvancedMeans ranged placer NoMemory after = (placer_front placer < ranged.size) × (after.token ≡ placer.token)
+AdvancedMeans ranged placer (Ok None) after = (placer_front placer ≡ ranged.size) × (after ≡ placer)
+AdvancedMeans ranged placer (Err _) after = (placer_front placer < ranged.size) × (after.token ≡ placer.token)
 
 -- the words are those of the key; the place at the front is one of the batch, which is of a log, and has this statement, and the placer
 -- keeps all places below it

@@ -1,18 +1,16 @@
-//! A batch completed on one thread, and what it leaves: outcomes, versions and ends.
+//! A batch completed on one thread, and what its places result in.
 
 mod batch_progress;
 mod below;
 mod cells;
-mod completed_batch;
+mod changes;
 mod copying;
-mod decoded;
 mod ends;
 mod finished;
 mod lists;
 mod places;
 mod running;
 
-pub use completed_batch::CompletedBatch;
-pub use decoded::{DecodedBatch, take};
+pub use changes::creates;
 pub use finished::Finished;
 pub use running::finish;

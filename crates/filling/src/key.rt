@@ -59,14 +59,6 @@ impl<'a> RangeKey<'a> {
         self.slots.as_slice()
     }
 
-    /// The batch, without the slots.
-    pub(crate) fn into_batch(self) -> LogBatch<'a>
-        ensures { result ≡ self.entry.batch }
-    {
-        let RangeKey { batch, slots: _ } = self;
-        batch
-    }
-
     // The number of a slot in the list, if it is there. It doesn't allocate, and takes a time that grows with the logarithm of the length
     // of the list.
     pub(crate) fn number_of(&self, slot: usize) -> Option<usize>

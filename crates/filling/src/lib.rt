@@ -1,8 +1,8 @@
 //! Places of a log placed and run on shared words, up to the end of the batch.
 //!
 //! `open` makes the words of a range and a `Placer` for each partition, whose `place_next` stores the references of the
-//! next place. `run_place` runs a place after those that it refers to. `finish` keeps the words of each place that is
-//! done and runs the others; `take` decodes outcomes and versions. Each outcome is the log's. A place costs
+//! next place. `run_place` runs a place after those that it refers to. `finish` runs the places that aren't done and
+//! decodes each once: outcomes, versions, changes of the book. Each outcome is the log's. A place costs
 //! what it stores and reads. On `Err`, out of memory.
 //!
 //! After J. M. Faleiro and D. J. Abadi, "Rethinking Serializable Multiversion Concurrency Control", PVLDB 8 (2015),
@@ -21,12 +21,13 @@ mod own;
 mod placer;
 mod reader;
 mod running;
+mod slots;
 mod storing;
 
-pub use completion::{CompletedBatch, DecodedBatch, Finished, finish, take};
-pub use filling_base::Advanced;
+pub use completion::{Finished, creates, finish};
 pub use key::RangeKey;
 pub use opening::open;
 pub use outcomes::outcome;
 pub use placer::Placer;
 pub use running::{Ran, run_place};
+pub use slots::slot_in;

@@ -10,9 +10,9 @@ ghost use Rattle.filling.specs.Placers.{IsAt};
 
 use crate::key::RangeKey;
 use crate::storing::{store_rows, store_tables};
-use filling_base::{Advanced, Batch, BatchPlacer};
+use filling_base::{Batch, BatchPlacer};
 use log_batch::LogBatch;
-use model_base::Statement;
+use model_base::{Place, Statement};
 use placing::Finder;
 use std::alloc::AllocError;
 use words::BatchWords;
@@ -93,9 +93,9 @@ impl Placer {
         self.token.front()
     }
 
-    /// Places the next place of the batch for the placer's partition, if there is one: it stores the place's references into the
-    /// partition, and then the partition's front. After `NoMemory` nothing is stored, and the next call places the same place.
-    pub fn place_next(&mut self, batch: &Batch<RangeKey<'_>>) -> Advanced
+    /// Places the next place of the batch for the placer's partition, and returns it, or `None` after the last: it stores the place's
+    /// references, and then the partition's front. On `Err`, out of memory: the next call places the same place.
+    pub fn place_next(&mut self, batch: &Batch<RangeKey<'_>>) -> Result<Option<Place>, AllocError>
         requires same_table { IsPlacerIn batch.now self.old }
         ensures same_table { IsPlacerIn batch.now self.new }
         ensures tells { AdvancedMeans batch.now.key.batch self.old result self.new }
@@ -104,15 +104,15 @@ impl Placer {
         let range = key.batch();
         let index = self.front();
         if index >= range.size() {
-            return Advanced::End;
+            return Ok(None);
         }
         match find(&mut self.finder, range, index) {
             Ok(()) => {
                 let statement = range.statement(index);
                 place_statement(key, batch.words(), &mut self.token, &self.finder, statement);
-                Advanced::Next(range.first_place() + index as u64)
+                Ok(Some(range.first_place() + index as u64))
             }
-            Err(_) => Advanced::NoMemory,
+            Err(error) => Err(error),
         }
     }
 }
@@ -128,7 +128,7 @@ impl<'a> BatchPlacer<RangeKey<'a>> for Placer {
         self.token.partition()
     }
 
-    fn advance(&mut self, batch: &Batch<RangeKey<'a>>) -> Advanced {
+    fn advance(&mut self, batch: &Batch<RangeKey<'a>>) -> Result<Option<Place>, AllocError> {
         self.place_next(batch)
     }
 }

@@ -4,7 +4,7 @@ ghost use Rattle.std.specs.Prelude.{◌≡◌, ◌+◌, ◌-◌, ◌<◌, ◌≤
 ghost use Rattle.words.specs.Passes.{IsPassOf};
 ghost use Rattle.words.specs.Views.{In};
 ghost use Rattle.filling_base.specs.Counting.{CountsBodies};
-ghost use Rattle.filling_base.specs.Extending.{IsSamePass};
+ghost use Rattle.filling_base.specs.Extending.{IsSamePass, OnlyLearns};
 ghost use Rattle.filling.specs.Bodies.{runs_at};
 ghost use Rattle.filling.specs.Runs.{DoneMeans, RanMeans};
 
@@ -12,6 +12,7 @@ use crate::key::RangeKey;
 use crate::outcomes::outcome;
 use filling_base::{Batch, Tried};
 use model_base::{Outcome, Place};
+use std::alloc::AllocError;
 use words::Pass;
 
 /// The outcome of a place that was to be run.
@@ -23,32 +24,69 @@ pub enum Ran {
     Busy(Place),
     /// This partition hasn't placed the place.
     NotPlaced(usize),
-    /// Memory ran out.
-    NoMemory,
 }
 
 // What a place resulted in that the pass knows done.
-fn answer_done(batch: &Batch<RangeKey<'_>>, pass: Pass, index: usize) -> (Pass, Ran)
+fn done_outcome(
+    batch: &Batch<RangeKey<'_>>,
+    pass: Pass,
+    index: usize,
+) -> (Pass, Result<Outcome, AllocError>)
     requires same_table { IsPassOf batch.now pass }
     requires within { index < batch.now.key.batch.size }
     requires known { In index pass.view.known }
     ensures same { IsSamePass pass result.0 }
     ensures bodies { result.0.bodies ≡ pass.bodies }
-    ensures tells { DoneMeans batch.now.key.batch index pass.view result.1 result.0.view }
+    ensures learns { OnlyLearns pass.view result.0.view }
+    ensures tells { DoneMeans batch.now.key.batch index result.1 }
 {
     let (pass, told) = outcome(batch, pass, index);
     match told {
-        Ok(Some(found)) => (pass, Ran::Done(found)),
+        Ok(Some(found)) => (pass, Ok(found)),
         Ok(None) => unreachable!(),
-        Err(_) => (pass, Ran::NoMemory),
+        Err(error) => (pass, Err(error)),
     }
 }
 
-/// Runs a place of the batch, and before it those that it is referred to and that aren't done, and gives its outcome, which is that of the
-/// log. The pass counts the bodies of the places that it finishes, whatever is returned, and holds no place afterwards. `Busy` gives a
-/// place of the log, at most the one asked for, that another pass held at a step of this call. `NoMemory` is also returned where memory ran
-/// out for the list of what the place's own revocation ended, and then the place is done.
-pub fn run_place(batch: &Batch<RangeKey<'_>>, pass: Pass, place: Place) -> (Pass, Ran)
+// Runs the place of an index, as `run_place`.
+fn run_index(
+    batch: &Batch<RangeKey<'_>>,
+    pass: Pass,
+    index: usize,
+) -> (Pass, Result<Ran, AllocError>)
+    requires same_table { IsPassOf batch.now pass }
+    requires within { index < batch.now.key.batch.size }
+    ensures same { IsSamePass pass result.0 }
+    ensures bodies { CountsBodies (runs_at batch.now.key.batch) pass result.0 }
+    ensures tells { RanMeans batch.now.key.batch index pass.view result.1 result.0.view }
+{
+    let (pass, tried) = batch.try_run(pass, index);
+    let Ok(came) = tried else {
+        return (pass, Err(AllocError));
+    };
+    match came {
+        Tried::Done => {
+            let (pass, told) = done_outcome(batch, pass, index);
+            match told {
+                Ok(found) => (pass, Ok(Ran::Done(found))),
+                Err(error) => (pass, Err(error)),
+            }
+        }
+        Tried::Busy(other) => {
+            let place = batch.key().batch().first_place() + other as u64;
+            (pass, Ok(Ran::Busy(place)))
+        }
+        Tried::NotPlaced(partition) => (pass, Ok(Ran::NotPlaced(partition))),
+    }
+}
+
+/// Runs a place of the batch, and before it those that it is referred to and that aren't done, and returns its outcome. The pass holds no
+/// place afterwards. On `Err`, out of memory, also where the place is done.
+pub fn run_place(
+    batch: &Batch<RangeKey<'_>>,
+    pass: Pass,
+    place: Place,
+) -> (Pass, Result<Ran, AllocError>)
     requires same_table { IsPassOf batch.now pass }
     requires begins { batch.now.key.batch.first ≤ place }
     requires within { place < batch.now.key.batch.first + batch.now.key.batch.size }
@@ -57,12 +95,5 @@ pub fn run_place(batch: &Batch<RangeKey<'_>>, pass: Pass, place: Place) -> (Pass
     ensures tells { RanMeans batch.now.key.batch (place - batch.now.key.batch.first) pass.view result.1 result.0.view }
 {
     let first = batch.key().batch().first_place();
-    let index = (place - first) as usize;
-    let (pass, tried) = batch.try_run(pass, index);
-    match tried {
-        Tried::Done => answer_done(batch, pass, index),
-        Tried::Busy(other) => (pass, Ran::Busy(first + other as u64)),
-        Tried::NotPlaced(partition) => (pass, Ran::NotPlaced(partition)),
-        Tried::NoMemory => (pass, Ran::NoMemory),
-    }
+    run_index(batch, pass, (place - first) as usize)
 }

@@ -6,12 +6,12 @@ use Rattle.bohm_core_base.specs.Batch.{Batch}
 use Rattle.words.specs.declared.knowledge.Knowledge.{Knowledge}
 use Rattle.words.specs.Meanings.{FoundHeld}
 use Rattle.words.specs.Views.{HoldsNone, In, KnowsPast, KnowsReferences, with_event, with_known}
-use Rattle.filling_base.specs.declared.run.Tried.TheVariants.{Done, Busy, NotPlaced, NoMemory}
+use Rattle.filling_base.specs.declared.run.Tried.TheVariants.{Done, Busy, NotPlaced}
 use Rattle.filling_base.specs.declared.walk.Frame.{Frame}
 use Rattle.filling_base.specs.Counting.{FillCounts, counted_more}
 use Rattle.filling_base.specs.Extending.{Extends, Finishes, HoldsJust, NoPlace, OnlyLearns}
 use Rattle.filling_base.specs.References.{IsRevocation}
-use Rattle.filling_base.specs.Tries.{FillMeans, HasToWait, IsKnownDone, MayLackMemory, MeetsUnplaced, StopsWith, TakesPlaced, TriedMeans}
+use Rattle.filling_base.specs.Tries.{FillMeans, HasToWait, IsKnownDone, LacksMemory, MayLackMemory, MeetsUnplaced, StopsWith, TakesPlaced, TriedMeans}
 use Rattle.filling_base.specs.Walks.{IsWalk, LackedMemory, MetHeld, GoesFurther, Released, Spot, asked_place, bottom, held, waiting}
 use Rattle.filling_base.proofs.Going.{goes-claim, goes-known, goes-longer, goes-none, goes-sighting, goes-then, goes-wider, now-known, refers-later, told-later, waited-before}
 use Rattle.filling_base.proofs.Holding.{frees, holds-nothing, met, takes}
@@ -95,7 +95,7 @@ module _ (b : Batch) (index : ℕ) where
   }
 
   -- the place at hand is done, and none waits for it
-  pub over : (v w : Knowledge) (s : Spot) → Running b index v s → Finishes s.at s.view w → s.frames ≡ [] → TriedMeans b index v Done w
+  pub over : (v w : Knowledge) (s : Spot) → Running b index v s → Finishes s.at s.view w → s.frames ≡ [] → TriedMeans b index v (Ok Done) w
   over v w s r f none =
       let here : s.at ≡ index = sym (ap (λ (fs : List Frame). bottom fs s.at) none) ∙ r.for in
       (goes-then NoPlace v s.view w r.goes f.goes, f.sightings ∙ r.sightings, subst (λ (i : ℕ). In i w.known) here f.known)
@@ -112,7 +112,7 @@ module _ (b : Batch) (index : ℕ) where
       ⊎_elim (λ is. subst P (sym (is ∙ at)) here)
       (λ old. waits i (r.waits i (subst (λ (fs : List Frame). In i (waiting fs)) frames old))) has
 
-  pub busy : (other : ℕ) (v w : Knowledge) (s t : Spot) → Running b index v s → MetHeld other b s t → Released (held t) t.view w → TriedMeans b index v (Busy other) w
+  pub busy : (other : ℕ) (v w : Knowledge) (s t : Spot) → Running b index v s → MetHeld other b s t → Released (held t) t.view w → TriedMeans b index v (Ok (Busy other)) w
   busy other v w s t r m l =
       let P = HasToWait b v in
       let to-t = goes-then NoPlace v s.view t.view r.goes m.stays.goes in
@@ -149,7 +149,7 @@ module _ (b : Batch) (index : ℕ) where
       (λ waits. absurd (waits (refers-later b v s.view s.at r.goes.knows (subst (λ (i : ℕ). KnowsReferences b v i) here knows))))
       (λ revokes. subst (λ (i : ℕ). IsRevocation b i) (sym here) revokes) lacks
 
-  pub out-of-memory : (v w : Knowledge) (s t : Spot) → Running b index v s → LackedMemory b s t → Released (held t) t.view w → TriedMeans b index v NoMemory w
+  pub out-of-memory : (v w : Knowledge) (s t : Spot) → Running b index v s → LackedMemory b s t → Released (held t) t.view w → LacksMemory b index v w
   out-of-memory v w s t r m l =
       let P = MayLackMemory b v in
       let to-t = goes-then NoPlace v s.view t.view r.goes m.stays.goes in

@@ -1,10 +1,11 @@
 -- The outcome of a place that is asked for.
 use Rattle.std.specs.Prelude.{◌≡◌, ◌⊎◌, ℕ, ◌<◌, ◌≤◌, ◌+◌, true, [], ◌∷◌, ◌++◌, length, Result, Ok, Err, List, false}
+use Rattle.std.specs.declared.alloc.AllocError.{AllocError}
 use Rattle.bohm_core_base.specs.Batch.{Batch}
 use Rattle.words.specs.declared.knowledge.Knowledge.{Knowledge}
 use Rattle.words.specs.Views.{HoldsNone, In, IsSettled, KnowsFront, KnowsPast, KnowsReferences}
 use Rattle.filling_base.specs.declared.run.Tried.{Tried}
-use Rattle.filling_base.specs.declared.run.Tried.TheVariants.{Done, Busy, NotPlaced, NoMemory}
+use Rattle.filling_base.specs.declared.run.Tried.TheVariants.{Done, Busy, NotPlaced}
 use Rattle.filling_base.specs.Extending.{Finishes, Extends, HoldsJust, NoPlace, OnlyLearns}
 use Rattle.filling_base.specs.References.{IsRevocation}
 
@@ -53,16 +54,19 @@ pub record PlacedMeans (batch : Batch) (view after : Knowledge) : Type 0 where
 abbrev pub UnplacedMeans : Batch → Knowledge → Knowledge → Type 0
 UnplacedMeans batch view after = (last : ℕ) × (partition : ℕ) × (last + 1 ≡ batch.size) × MeetsUnplaced batch last partition view after
 
--- the outcome of a place that was asked for. It is known done, and none was given back; or another was held, and what was given back had to
--- wait; or a partition hasn't placed it; or memory ran out, which it isn't where the place has no revocation and all its references were
--- known done, and what was given back had to wait or may revoke
-abbrev pub TriedMeans : Batch → ℕ → Knowledge → Tried → Knowledge → Type 0
-TriedMeans batch index view (NotPlaced partition) after = MeetsUnplaced batch index partition view after
-TriedMeans batch index view Done after = Extends NoPlace view after × (after.sightings ≡ view.sightings) × In index after.known
-TriedMeans batch index view (Busy other) after = Extends (HasToWait batch view) view after × MeetsHeld batch index other view after
-TriedMeans batch index view NoMemory after =
-    Extends (MayLackMemory batch view) view after × (after.sightings ≡ view.sightings)
+-- memory ran out, which it doesn't where the place has no revocation and all its references were known done; what was given back had to
+-- wait or may revoke
+abbrev pub LacksMemory : Batch → ℕ → Knowledge → Knowledge → Type 0
+LacksMemory batch index view after = Extends (MayLackMemory batch view) view after × (after.sightings ≡ view.sightings)
     × (KnowsReferences batch view index → IsRevocation batch index)
+
+-- the outcome of a place that was asked for. It is known done, and none was given back; or another was held, and what was given back had to
+-- wait; or a partition hasn't placed it; or memory ran out
+abbrev pub TriedMeans : Batch → ℕ → Knowledge → Result Tried AllocError → Knowledge → Type 0
+TriedMeans batch index view (Ok (NotPlaced partition)) after = MeetsUnplaced batch index partition view after
+TriedMeans batch index view (Ok Done) after = Extends NoPlace view after × (after.sightings ≡ view.sightings) × In index after.known
+TriedMeans batch index view (Ok (Busy other)) after = Extends (HasToWait batch view) view after × MeetsHeld batch index other view after
+TriedMeans batch index view (Err _) after = LacksMemory batch index view after
 
 -- it claimed the place, and holds no other; every partition has placed it, and nothing said before that it is done
 pub record TakesPlaced (batch : Batch) (index : ℕ) (view after : Knowledge) : Type 0 where
@@ -74,7 +78,7 @@ pub record TakesPlaced (batch : Batch) (index : ℕ) (view after : Knowledge) : 
 
 -- it holds no place, and the outcome is this: that the place is done, if what the pass knew says so
 pub record StopsWith (batch : Batch) (index : ℕ) (view : Knowledge) (answer : Tried) (after : Knowledge) : Type 0 where
-  pub tells : TriedMeans batch index view answer after
+  pub tells : TriedMeans batch index view (Ok answer) after
   pub idle : HoldsNone after
   pub told : IsKnownDone batch view index → answer ≡ Done
 

@@ -1,12 +1,13 @@
 -- What a call holds, and what a step of it does.
-use Rattle.std.specs.Prelude.{◌≡◌, ◌⊎◌, ℕ, zero, suc, ◌+◌, ◌*◌, ◌-◌, ◌^◌, ◌<◌, ◌≤◌, List, [], ◌∷◌, ◌++◌, length, false}
+use Rattle.std.specs.Prelude.{◌≡◌, ◌⊎◌, ℕ, zero, suc, ◌+◌, ◌*◌, ◌-◌, ◌^◌, ◌<◌, ◌≤◌, List, [], ◌∷◌, ◌++◌, length, false, Result, Ok, Err}
+use Rattle.std.specs.declared.alloc.AllocError.{AllocError}
 use Rattle.bohm_core_base.specs.Batch.{Batch, reference_words}
 use Rattle.words.specs.declared.knowledge.Knowledge.{Knowledge}
 use Rattle.words.specs.Views.{In, KnowsPast}
 use Rattle.filling_base.specs.declared.walk.Frame.{Frame}
 use Rattle.filling_base.specs.declared.walk.Walk.{Walk}
 use Rattle.filling_base.specs.declared.walk.Step.{Step}
-use Rattle.filling_base.specs.declared.walk.Step.TheVariants.{Went, Busy, NoMemory}
+use Rattle.filling_base.specs.declared.walk.Step.TheVariants.{Went, Busy}
 use Rattle.filling_base.specs.Extending.{Extends, HoldsJust, NoPlace}
 use Rattle.filling_base.specs.References.{reference}
 use Rattle.filling_base.specs.Tries.{HasToWait, IsKnownDone, MayLackMemory}
@@ -114,10 +115,10 @@ pub record LackedMemory (batch : Batch) (spot next : Spot) : Type 0 where
   pub sightings : next.view.sightings ≡ spot.view.sightings
   pub lacks : MayLackMemory batch spot.view spot.at
 
-abbrev pub StepDone : Batch → Spot → Step → Spot → Type 0
-StepDone batch spot Went next = GoesFurther batch spot next
-StepDone batch spot (Busy other) next = MetHeld other batch spot next
-StepDone batch spot NoMemory next = LackedMemory batch spot next
+abbrev pub StepDone : Batch → Spot → Result Step AllocError → Spot → Type 0
+StepDone batch spot (Ok Went) next = GoesFurther batch spot next
+StepDone batch spot (Ok (Busy other)) next = MetHeld other batch spot next
+StepDone batch spot (Err _) next = LackedMemory batch spot next
 
 -- it gave back what it held
 pub record Released (held : List ℕ) (view after : Knowledge) : Type 0 where

@@ -10,7 +10,8 @@ ghost use Rattle.filling_base.specs.Tries.{FillMeans};
 use std::alloc::AllocError;
 use words::{BatchData, BatchWords, Holding};
 
-/// A batch whose places can be filled one at a time. `runs` says how many bodies are run to fill a place.
+/// A batch whose places can be filled one at a time. `runs` says how many bodies are run to fill a place. A trait, so that what is proved
+/// of passes and threads holds however a place is judged and run, which crates above say.
 pub trait Fills: BatchData {
     ghost runs: { Self → ℕ → ℕ };
 

@@ -23,6 +23,6 @@ mod walk;
 pub use batch::Batch;
 pub use fills::Fills;
 pub use laws::{counts_go_on, learning_comes_before_storing};
-pub use placer::{Advanced, BatchPlacer};
+pub use placer::BatchPlacer;
 pub use run::Tried;
 pub use storing::store;

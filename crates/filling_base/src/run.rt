@@ -1,6 +1,6 @@
 //! Runs a place that is asked for.
 
-ghost use Rattle.std.specs.Prelude.{◌≡◌, ◌<◌};
+ghost use Rattle.std.specs.Prelude.{◌≡◌, ◌<◌, Ok};
 ghost use Rattle.std.specs.Option.{MatchOption};
 ghost use Rattle.words.specs.Passes.{IsPassOf};
 ghost use Rattle.words.specs.Views.{HoldsNone};
@@ -11,6 +11,7 @@ ghost use Rattle.filling_base.specs.Tries.{IsKnownDone, StopsWith, TakesPlaced, 
 use crate::batch::Batch;
 use crate::fills::Fills;
 use crate::walk::{Step, Walk};
+use std::alloc::AllocError;
 use words::{Claimed, Holding, Pass, Seen};
 
 /// The outcome of a place that was asked for.
@@ -22,8 +23,6 @@ pub enum Tried {
     Busy(usize),
     /// The partition hasn't placed the place.
     NotPlaced(usize),
-    /// Memory ran out.
-    NoMemory,
 }
 
 impl<K: Fills> Batch<K> {
@@ -51,24 +50,20 @@ impl<K: Fills> Batch<K> {
         }
     }
 
-    /// Runs a place, and before it those that it is referred to and that aren't done. The pass holds none afterwards, and what was finished
-    /// on the way stays finished. `Busy` gives a place, at most the one asked for, that another pass held at a step of this call; all
-    /// claims of the call were given back. `NotPlaced` gives a partition that was found in this call not to have placed the place, and that
-    /// the pass didn't know to have. `NoMemory` is not answered for a place without a revocation whose references the pass knew done. A
-    /// place is given back only if one of its references wasn't known done as the call began, or for lack of memory for a revocation. The
-    /// pass counts the bodies of the places that it finishes, whatever is returned.
-    pub fn try_run(&self, pass: Pass, index: usize) -> (Pass, Tried)
+    /// Runs a place, and before it those that it is referred to and that aren't done. What was finished on the way stays finished, whatever
+    /// is returned. `Busy` gives a place that another pass held. On `Err`, out of memory.
+    pub fn try_run(&self, pass: Pass, index: usize) -> (Pass, Result<Tried, AllocError>)
         requires same_table { IsPassOf self.now pass }
         requires within { index < (K.batch self.now.key).size }
         ensures same { IsSamePass pass result.0 }
         ensures tells { TriedMeans (K.batch self.now.key) index pass.view result.1 result.0.view }
         ensures bodies { CountsBodies (K.runs self.now.key) pass result.0 }
         // What the pass knows done is returned so, and what is settled by that.
-        ensures told { IsKnownDone (K.batch self.now.key) pass.view index → result.1 ≡ Tried.Done }
+        ensures told { IsKnownDone (K.batch self.now.key) pass.view index → result.1 ≡ Ok Tried.Done }
     {
         let mut holding = Holding::begin(pass);
         if let Some(answer) = self.claim_placed(&mut holding, index) {
-            return (holding.end(), answer);
+            return (holding.end(), Ok(answer));
         }
         let mut walk = Walk {
             holding,
@@ -80,22 +75,22 @@ impl<K: Fills> Batch<K> {
             if walk.next < self.key.references_length(walk.at) {
                 let next = walk.next + 1;
                 match self.step(&mut walk, next) {
-                    Step::Went => continue,
-                    Step::Busy(other) => return (self.release(walk), Tried::Busy(other)),
-                    Step::NoMemory => return (self.release(walk), Tried::NoMemory),
+                    Ok(Step::Went) => continue,
+                    Ok(Step::Busy(other)) => return (self.release(walk), Ok(Tried::Busy(other))),
+                    Err(error) => return (self.release(walk), Err(error)),
                 }
             }
             let (holding, filled) = self.key.fill(&self.words, walk.holding, walk.at);
             walk.holding = holding;
             if filled.is_err() {
-                return (self.release(walk), Tried::NoMemory);
+                return (self.release(walk), Err(AllocError));
             }
             match walk.stack.pop() {
                 Some(frame) => {
                     walk.at = frame.index;
                     walk.next = frame.next;
                 }
-                None => return (walk.holding.end(), Tried::Done),
+                None => return (walk.holding.end(), Ok(Tried::Done)),
             }
         }
     }

@@ -12,11 +12,12 @@ ghost use Rattle.filling_base.specs.Walks.{IsWalk, StepDone, asked_place, spot};
 use crate::batch::Batch;
 use crate::fills::Fills;
 use crate::walk::{Frame, Step, Walk};
+use std::alloc::AllocError;
 use words::{Claimed, Seen};
 
 impl<K: Fills> Batch<K> {
     // Goes on with a place that the current one is referred to, if it can be claimed. Room to wait for it is made first.
-    fn enter(&self, walk: &mut Walk, index: usize, next: usize) -> Step
+    fn enter(&self, walk: &mut Walk, index: usize, next: usize) -> Result<Step, AllocError>
         requires same_table { IsPassOf self.now walk.old.holding }
         requires within { asked_place (spot walk.old) < (K.batch self.now.key).size }
         requires walks { IsWalk (K.batch self.now.key) (spot walk.old) }
@@ -33,28 +34,28 @@ impl<K: Fills> Batch<K> {
             next,
         };
         if walk.stack.push(frame).is_err() {
-            return Step::NoMemory;
+            return Err(AllocError);
         }
         match self.words.claim(&mut walk.holding, index) {
             Claimed::Won => {
                 walk.at = index;
                 walk.next = 0;
-                Step::Went
+                Ok(Step::Went)
             }
             Claimed::Held => {
                 let _ = walk.stack.pop();
-                Step::Busy(index)
+                Ok(Step::Busy(index))
             }
             Claimed::Done => {
                 let _ = walk.stack.pop();
                 walk.next = next;
-                Step::Went
+                Ok(Step::Went)
             }
         }
     }
 
     // Looks at the next reference of the current place, after which this one is the next.
-    pub(crate) fn step(&self, walk: &mut Walk, next: usize) -> Step
+    pub(crate) fn step(&self, walk: &mut Walk, next: usize) -> Result<Step, AllocError>
         requires same_table { IsPassOf self.now walk.old.holding }
         requires within { asked_place (spot walk.old) < (K.batch self.now.key).size }
         requires walks { IsWalk (K.batch self.now.key) (spot walk.old) }
@@ -67,14 +68,14 @@ impl<K: Fills> Batch<K> {
         match self.referred(&mut walk.holding, walk.at, walk.next) {
             None => {
                 walk.next = next;
-                Step::Went
+                Ok(Step::Went)
             }
             Some(index) => match self.words.look(&mut walk.holding, index) {
                 Seen::Free => self.enter(walk, index, next),
-                Seen::Held => Step::Busy(index),
+                Seen::Held => Ok(Step::Busy(index)),
                 Seen::Done => {
                     walk.next = next;
-                    Step::Went
+                    Ok(Step::Went)
                 }
             },
         }

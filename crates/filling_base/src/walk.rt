@@ -25,6 +25,4 @@ pub(crate) enum Step {
     Went,
     /// The place of this index was held by another pass.
     Busy(usize),
-    /// Memory ran out.
-    NoMemory,
 }

@@ -169,7 +169,7 @@ impl Book {
         ensures err { OnErr result (self.new ≡ self.old) }
     {
         let ended = self.cascade(alloc, revocation)?;
-        self.records.end(ended.ends())?;
+        self.records.end(ended.ends());
         Ok(ended.into_names())
     }
 
@@ -188,10 +188,8 @@ impl Book {
 
     /// Adds tables and grants after the others, the grants without an end, and then ends records by their slots. What is so built
     /// has to be a book. Where the book showed some deeds, and the grants and ends are what more deeds make of their records, it then shows
-    /// them all. Each table costs a time that doesn't grow with their number, on average, each grant the logarithm of the number of grants
-    /// in force of its kind on its table to its grantee, and each end that and the logarithm of the number of these ends. Only where the
-    /// book has ends at later places than a new one are they moved for it, and found in a time that grows with the logarithm of their
-    /// number. On `Err`, out of memory, the book is as it was.
+    /// them all. Each table costs a time that doesn't grow with their number, on average, each grant and each end the logarithm of the number
+    /// of grants in force of its kind on its table to its grantee. On `Err`, out of memory, the book is as it was.
     pub fn extend(
         &mut self,
         tables: &[Creation],
@@ -211,8 +209,7 @@ impl Book {
         Ok(())
     }
 
-    /// Forgets the tables, grants and ends of the place and of later ones. It doesn't allocate. Each that is forgotten costs a time that
-    /// doesn't grow with the number of grants, on average; to find the first of them costs the logarithm of it.
+    /// Forgets the tables, grants and ends of the place and of later ones. It doesn't allocate, and goes once through the records.
     pub fn cut(&mut self, place: Place)
         ensures cut { self.new ≡ cut_book place self.old }
         ensures after { (owners others more : List ℕ) (deeds : List Deed) → ShowsBook self.old owners deeds

@@ -349,6 +349,9 @@ fn add_grants_by<V: Records>(
         → (is_one_of due.old j ≡ true) ⊎ ((start ≤ j) × (j < length (V.shown view.old).slots))) }
     ensures same { V.shown view.new ≡ V.shown view.old }
 {
+    if last < start {
+        return Ok(());
+    }
     let end = view.slots();
     let mut from = start;
     while from < end {

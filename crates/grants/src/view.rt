@@ -105,6 +105,10 @@ impl<B: RecordBook> Records for ViewOf<'_, B> {
         }
     }
 
+    fn kept_in_force(&mut self, holder: Holder, option: bool) -> Option<NextInForce> {
+        self.next_in_force(holder, option, 0)
+    }
+
     fn next_in_force_by(&mut self, user: User, holder: Holder, from: usize) -> Option<NextBy> {
         match self.book.indexed_below(self.place) {
             Some(records) => records.next_in_force_by(user, holder, from),

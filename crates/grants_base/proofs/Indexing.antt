@@ -1,9 +1,11 @@
 -- What an index of records has, with one record more, with one less, and with other ends.
-use Rattle.std.proofs.Common.{◌≡◌, ℕ, zero, suc, ◌<◌, ◌+◌, Bool, true, List, [], ◌∷◌, ◌++◌, Option, Some, None, length, take, get_or, refl, sym, ◌∙◌, ap, arith, subst}
-use Rattle.std.specs.Prelude.{◌==◌, All, OnErr, Result, Ok, Err, slice_get}
+use Rattle.std.proofs.Common.{◌≡◌, ℕ, zero, suc, ◌<◌, ◌≤◌, ◌+◌, ◌-◌, Bool, true, List, [], ◌∷◌, ◌++◌, Option, Some, None, length, take, get_or, refl, sym, ◌∙◌, ap, arith, subst, inl, inr, map}
+use Rattle.std.specs.Prelude.{◌==◌, All, IsSomeAnd, OnErr, Result, Ok, Err, nat_lt, slice_get}
+use Rattle.std.specs.Option.{option_map_or}
+use Rattle.std.proofs.lemmas.Bool.{cases_lt, le-ltb, lt-ltb}
 use Rattle.std.proofs.lemmas.Bool.Decides.{nat_tests}
 use Rattle.std.proofs.lemmas.List.{take_more}
-use Rattle.std.proofs.lemmas.List.Elements.{All-head, All-push, All-tail}
+use Rattle.std.proofs.lemmas.List.Elements.{All-push}
 use Rattle.model_base.specs.declared.deed.Grant.{Grant}
 use Rattle.model_base.specs.declared.deed.Kind.{Kind}
 use Rattle.model_base.specs.declared.deed.Kind.TheVariants.{Read, Insert, Update, Delete}
@@ -11,10 +13,12 @@ use Rattle.model_base.specs.declared.deed.Record.{Record}
 use Rattle.model_base.specs.Privileges.{same_kind}
 use Rattle.model_base.specs.Records.{recorded}
 use Rattle.grants_base.specs.declared.entries.End.{End}
-use Rattle.grants_base.specs.declared.endings.Ending.{Ending}
-use Rattle.grants_base.specs.Book.{end_slot, end_slots, unended}
+use Rattle.model_base.specs.Records.{end_below}
+use Rattle.grants_base.specs.Book.{end_slot, end_slots, reopened, unended}
+use Rattle.grants_base.proofs.Lookups.{end_below-some}
 use Rattle.grants_base.specs.Index.{IsFirst}
-use Rattle.grants_base.specs.Marks.{HasEnds, has_ending}
+use Rattle.grants_base.specs.Force.{later_of}
+use Rattle.grants_base.specs.Marks.{EndBy}
 use Rattle.model_base.specs.Ranks.{kind_code}
 
 pub code-same : (a b : Kind) → (kind_code a == kind_code b) ≡ same_kind b a
@@ -60,11 +64,11 @@ get_more [] grant (suc slot) place entry is end = absurd (cc)
 get_more (first ∷ entries) grant zero place entry is end = is
 get_more (first ∷ entries) grant (suc slot) place entry is end = get_more entries grant slot place entry is end
 
-pub ends_more : (endings : List Ending) (entries : List Record) (grant : Grant) → HasEnds endings entries → HasEnds endings (entries ++ unended grant ∷ [])
-ends_more endings entries grant ends = λ slot place entry is end. ends slot place entry (get_more entries grant slot place entry is end) end
+pub ends_more : (last : Option ℕ) (entries : List Record) (grant : Grant) → EndBy last entries → EndBy last (entries ++ unended grant ∷ [])
+ends_more last entries grant ends = λ slot place entry is end. ends slot place entry (get_more entries grant slot place entry is end) end
 
-pub ends_less : (endings : List Ending) (entries : List Record) (last : Record) → HasEnds endings (entries ++ last ∷ []) → HasEnds endings entries
-ends_less endings entries last ends = λ slot place entry is end. ends slot place entry (get_before entries last slot entry is) end
+pub ends_less : (last : Option ℕ) (entries : List Record) (more : Record) → EndBy last (entries ++ more ∷ []) → EndBy last entries
+ends_less last entries more ends = λ slot place entry is end. ends slot place entry (get_before entries more slot entry is) end
 
 pub recorded-end_slot : (entries : List Record) (slot place : ℕ) → recorded (end_slot entries slot place) ≡ recorded entries
 recorded-end_slot [] slot place = refl
@@ -88,18 +92,43 @@ ended_slot (first ∷ entries) (suc slot) place zero q entry is end P here there
 ended_slot (first ∷ entries) (suc slot) place (suc k) q entry is end P here there =
     ended_slot entries slot place k q entry is end (λ n i. P n (suc i)) here there
 
-pub ends_slot : (endings : List Ending) (entries : List Record) (slot place : ℕ) → has_ending endings place slot ≡ true → HasEnds endings entries
-    → HasEnds endings (end_slot entries slot place)
-ends_slot endings entries slot place noted ends = λ k q entry is end.
-    ended_slot entries slot place k q entry is end (λ n i. has_ending endings n i ≡ true) noted (λ found at of. ends k q found at of)
+up_to_itself : (last : Option ℕ) (place : ℕ) → IsSomeAnd (later_of last (Some place)) (λ it. place ≤ it)
+up_to_itself None place = omega arith
+up_to_itself (Some it) place =
+    elim (cases_lt it place) [ inl less ↦ rw (lt-ltb it place less) (omega arith) | inr more ↦ rw (le-ltb it place more) more ]
 
-pub ends_slots : (endings : List Ending) (entries : List Record) (more : List End) → All (λ (end : End). has_ending endings end.place end.slot ≡ true) more → HasEnds endings entries
-    → HasEnds endings (end_slots entries more)
-ends_slots endings entries [] noted ends = ends
-ends_slots endings entries (end ∷ more) noted ends =
-    let Noted : End → Type 0 = λ (e : End). has_ending endings e.place e.slot ≡ true in
-    ends_slots endings (end_slot entries end.slot end.place) more (All-tail Noted end more noted)
-    (ends_slot endings entries end.slot end.place (All-head Noted end more noted) ends)
+up_to_later : (last : Option ℕ) (place q : ℕ) → IsSomeAnd last (λ it. q ≤ it) → IsSomeAnd (later_of last (Some place)) (λ it. q ≤ it)
+up_to_later None place q is = absurd is
+up_to_later (Some it) place q is =
+    elim (cases_lt it place) [ inl less ↦ rw (lt-ltb it place less) (omega arith) | inr more ↦ rw (le-ltb it place more) is ]
+
+-- one end more
+pub ends_slot : (last : Option ℕ) (entries : List Record) (slot place : ℕ) → EndBy last entries → EndBy (later_of last (Some place)) (end_slot entries slot place)
+ends_slot last entries slot place ends = λ k q entry is end.
+    ended_slot entries slot place k q entry is end (λ n i. IsSomeAnd (later_of last (Some place)) (λ it. n ≤ it)) (up_to_itself last place)
+    (λ found at of. up_to_later last place q (ends k q found at of))
+
+-- ends that were taken back
+pub ends_reopened : (last : Option ℕ) (place : ℕ) (entries : List Record) → EndBy last entries
+    → (slot q : ℕ) (entry : Record) → slice_get (map (reopened place) entries) slot ≡ Some entry → entry.end ≡ Some q → IsSomeAnd last (λ it. q ≤ it)
+ends_reopened last place [] ends slot q entry is end = absurd (cc)
+ends_reopened last place (first ∷ entries) ends zero q entry is end =
+    let here : end_below place first.end ≡ Some q = ap (λ (found : Option Record). option_end found) is ∙ end in
+    ends 0 q first refl (end_below-some place first.end q here).0
+ends_reopened last place (first ∷ entries) ends (suc slot) q entry is end =
+    ends_reopened last place entries (λ k n found there of. ends (suc k) n found there of) slot q entry is end
+
+-- an end that lies below a place, if there is one
+pub ends_below : (place : ℕ) (end : Option ℕ) → ((q : ℕ) → end ≡ Some q → q < place) → option_map_or (λ q. nat_lt q place) end true ≡ true
+ends_below place None below = refl
+ends_below place (Some q) below = lt-ltb q place (below q refl)
+
+pub none_there : {X : Type 0} (xs : List X) → slice_get xs (length xs - 1) ≡ None → (k : ℕ) → k < length xs → ⊥
+none_there [] none k less = omega arith
+none_there (x ∷ []) none k less = cc
+none_there (x ∷ y ∷ xs) none k less =
+    let one : length (x ∷ y ∷ xs) - 1 ≡ suc (length (y ∷ xs) - 1) = omega arith in
+    none_there (y ∷ xs) (ap (slice_get (x ∷ y ∷ xs)) (sym one) ∙ none) 0 (omega arith)
 
 -- the front of a list that was more
 pub take_front : {X : Type 0} (xs ys : List X) → take (length xs) (xs ++ ys) ≡ xs

@@ -9,11 +9,13 @@ use Rattle.model_base.specs.declared.deed.Record.{Record}
 use Rattle.model_base.proofs.Replay.{by_cases}
 use Rattle.grants_base.specs.Book.{end_slot, unended}
 use Rattle.grants_base.specs.Force.{AreByGrantors, Force, IsForceChanged, IsForceOf, IsGranted, IsWithSlot, IsWithdrawn, IsWithoutSlot, Privilege, force_of, gives_to}
-use Rattle.grants_base.specs.InForce.{IsChanged, IsPrivilegeOf, KeepsInForce, privilege_under}
+use Rattle.grants_base.specs.InForce.{IsChanged, IsPrivilegeOf, KeepsInForce, privilege_under, side_under}
 use Rattle.grants_base.specs.declared.grantor_set.Granted.{Granted}
 use Rattle.grants_base.specs.Index.{is_to}
 use Rattle.grants_base.specs.Sides.{side_of, to_side}
-use Rattle.grants_base.specs.declared.in_force.InForceIndex.{InForceIndex}
+use Rattle.grants_base.specs.declared.in_force.GranteeIndex.{GranteeIndex}
+use Rattle.grants_base.specs.declared.in_force.Side.{Side}
+use Rattle.grants_base.specs.declared.index.HolderKey.{HolderKey}
 use Rattle.grants_base.proofs.ForceLaws.{by_apart, by_ended, by_granted, by_other, force_apart, force_ended, force_granted, force_other}
 use Rattle.grants_base.proofs.SideLaws.{to_side-same}
 
@@ -75,6 +77,20 @@ pub put_changed : {X : Type 0} (here : Bool) (none was value : X) (Change : X �
 put_changed {X} true none was value Change found now is there told =
     (subst (λ (o : Option X). Change (unwrap_or o none) (unwrap_or now none)) (sym (there refl)) (subst (λ (o : Option X). Change was (unwrap_or o none)) (sym told) is), tt)
 put_changed false none was value Change found now is there told = (tt, ap (λ o. unwrap_or o none) told)
+
+-- of what changed in one place, a part
+pub changed_in : {X Y : Type 0} (f : X → Y) (here : Bool) (P : Type 0) (was now : X) → OnTrue here P × OnFalse here (now ≡ was) → OnTrue here P × OnFalse here (f now ≡ f was)
+changed_in f true P was now both = (both.0, tt)
+changed_in f false P was now both = (tt, ap f both.1)
+
+pub made_in : (here : Bool) (change : List ℕ → List ℕ) (was now : Side) → OnTrue here (now.made ≡ change was.made) × OnFalse here (now ≡ was)
+    → now.made ≡ (if here then change was.made else was.made)
+made_in true change was now both = both.0
+made_in false change was now both = ap (λ (side : Side). side.made) both.1
+
+pub same_in : {X Y : Type 0} (f : X → Y) (here : Bool) (was now : X) → OnTrue here (f now ≡ f was) × OnFalse here (now ≡ was) → f now ≡ f was
+same_in f true was now both = both.0
+same_in f false was now both = ap f both.1
 
 -- what holds of a flag that is set, or isn't
 on_true : (b : Bool) (P Q : Type 0) → OnTrue b P × OnFalse b Q → b ≡ true → P
@@ -171,7 +187,7 @@ module _ (entries : List Record) (grantee : Grantee) (kind : Kind) (table : ℕ)
   }
 
 -- of all
-module _ (old new : InForceIndex) (whole : new.is_whole ≡ old.is_whole) (entries : List Record) (keeps : KeepsInForce old entries) where
+module _ (old new : GranteeIndex) (whole : new.is_whole ≡ old.is_whole) (entries : List Record) (keeps : KeepsInForce old entries) where
   -- what changed under the side of a grant is what changed under that of a grantee, kind and table, or nothing
   changed_at : (grant : Grant) (grantee : Grantee) (kind : Kind) (table : ℕ) (Change : Privilege → Privilege → Type 0) → IsChanged (to_side grant) Change old new
       → OnTrue (is_to grantee kind table grant) (Change (privilege_under old (side_of grantee kind table)) (privilege_under new (side_of grantee kind table)))
@@ -204,3 +220,9 @@ module _ (old new : InForceIndex) (whole : new.is_whole ≡ old.is_whole) (entri
       by_cases (is_to grantee kind table found.grant)
       (λ here. privilege_ended entries grantee kind table was now before slot place found at free here (on_true (is_to grantee kind table found.grant) (IsWithdrawn (made_at found.grant slot) place found.grant.option was now) (now ≡ was) told here))
       (λ apart. privilege_other entries grantee kind table was now before slot place found at free apart (on_false (is_to grantee kind table found.grant) (IsWithdrawn (made_at found.grant slot) place found.grant.option was now) (now ≡ was) told apart))
+
+-- where nothing changed it keeps what it kept
+pub keeps_same : (old new : GranteeIndex) → new.is_whole ≡ old.is_whole → ((other : HolderKey) → side_under new other ≡ side_under old other)
+    → (entries : List Record) → KeepsInForce old entries → KeepsInForce new entries
+keeps_same old new whole same entries keeps is grantee kind table =
+    subst (λ (side : Side). IsPrivilegeOf grantee kind table entries side.privilege) (sym (same (side_of grantee kind table))) (keeps (sym whole ∙ is) grantee kind table)

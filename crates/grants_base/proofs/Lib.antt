@@ -9,6 +9,6 @@ pub mod ForceLaws
 pub mod Keeping
 pub mod SlotsLaws
 pub mod SlotSetLaws
-pub mod EndingLaws
 pub mod GrantorLaws
 pub mod IndexedLaws
+pub mod PrivilegeLaws

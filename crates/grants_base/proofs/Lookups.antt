@@ -1,5 +1,5 @@
 -- Lists in the order of their places, and what is found in them by a place.
-use Rattle.std.proofs.Common.{◌≡◌, ℕ, zero, suc, ◌<◌, ◌≤◌, ◌&&◌, ◌||◌, Bool, true, false, List, [], ◌∷◌, ◌++◌, Option, Some, None, is_none, filter, length, map, take, set as put, get_or, ltb, refl, sym, ◌∙◌, ap, arith, inl, inr, subst}
+use Rattle.std.proofs.Common.{◌≡◌, ℕ, zero, suc, ◌<◌, ◌≤◌, ◌&&◌, ◌||◌, Bool, true, false, List, [], ◌∷◌, ◌++◌, Option, Some, None, is_none, filter, length, map, take, get_or, ltb, refl, sym, ◌∙◌, ap, arith, inl, inr, subst}
 use Rattle.std.specs.Prelude.{◌==◌, ◌≢◌, slice_get}
 use Rattle.std.specs.List.{list_any}
 use Rattle.std.specs.List.Sorted.{IsNonDecreasingBy, IsPartitionPoint}
@@ -12,7 +12,7 @@ use Rattle.model_base.specs.Laws.{IsRising}
 use Rattle.model_base.specs.Records.{end_below, ended_at, recorded}
 use Rattle.model_base.proofs.Ranked.{rank-places}
 use Rattle.model_base.proofs.Replay.{by_cases}
-use Rattle.grants_base.specs.Book.{AreRising, end_slot, reopen_slot, reopened}
+use Rattle.grants_base.specs.Book.{AreRising, end_slot, reopened}
 use Rattle.grants_base.specs.declared.entries.Creation.{Creation}
 use Rattle.grants_base.proofs.RevokeLaws.{same_grant}
 use Rattle.grants_base.proofs.Walks.{length-recorded}
@@ -158,56 +158,6 @@ module _ (place : ℕ) (before : List ℕ) (ranked : ℕ) where
       ∙ ap (λ r. ended_at place now x ∷ r) (ends_one xs slot found at is (λ k entry there ne. others (suc k) entry there (λ same. ne (omega arith))))
 
 -- the record of a slot as it was at a place
-pub put_reopened : (entries : List Record) (slot place : ℕ) (d : Record) → slot < length entries → put entries slot (reopened place (get_or entries slot d)) ≡ reopen_slot place slot entries
-put_reopened [] slot place d less = absurd (omega arith)
-put_reopened (x ∷ xs) zero place d less = refl
-put_reopened (x ∷ xs) (suc slot) place d less = ap (λ r. x ∷ r) (put_reopened xs slot place d (omega arith))
-
-pub reopen_slot-past : (entries : List Record) (slot place : ℕ) → length entries ≤ slot → reopen_slot place slot entries ≡ entries
-reopen_slot-past [] zero place over = refl
-reopen_slot-past [] (suc slot) place over = refl
-reopen_slot-past (x ∷ xs) zero place over = absurd (omega arith)
-reopen_slot-past (x ∷ xs) (suc slot) place over = ap (λ r. x ∷ r) (reopen_slot-past xs slot place (omega arith))
-
-end_below-twice : (place : ℕ) (end : Option ℕ) → end_below place (end_below place end) ≡ end_below place end
-end_below-twice place None = refl
-end_below-twice place (Some q) =
-    elim (cases_lt q place) [
-      | inl less ↦ rw (lt-ltb q place less) (rw (lt-ltb q place less) refl)
-      | inr more ↦ rw (le-ltb q place more) refl
-    ]
-
-abbrev with : Grant → Option ℕ → Record
-with g e = record { grant = g; end = e }
-
--- what is reopened in turn is reopened
-pub map-reopen_slot : (place slot : ℕ) (entries : List Record) → map (reopened place) (reopen_slot place slot entries) ≡ map (reopened place) entries
-map-reopen_slot place zero [] = refl
-map-reopen_slot place (suc slot) [] = refl
-map-reopen_slot place zero (x ∷ xs) = ap (λ end. with x.grant end ∷ map (reopened place) xs) (end_below-twice place x.end)
-map-reopen_slot place (suc slot) (x ∷ xs) = ap (λ r. reopened place x ∷ r) (map-reopen_slot place slot xs)
-
--- a record after one was reopened: that one, or as it was
-pub reopened_slot : (place slot : ℕ) (entries : List Record) (k : ℕ) (entry : Record) → slice_get (reopen_slot place slot entries) k ≡ Some entry
-    → (P : Type 0) → ((was : Record) → slice_get entries k ≡ Some was → entry ≡ reopened place was → P) → (k ≢ slot → slice_get entries k ≡ Some entry → P) → P
-reopened_slot place zero [] k entry is P here there = absurd (cc)
-reopened_slot place (suc slot) [] k entry is P here there = absurd (cc)
-reopened_slot place zero (x ∷ xs) zero entry is P here there = here x refl (cc)
-reopened_slot place zero (x ∷ xs) (suc k) entry is P here there = there (λ same. absurd (omega arith)) is
-reopened_slot place (suc slot) (x ∷ xs) zero entry is P here there = there (λ same. absurd (omega arith)) is
-reopened_slot place (suc slot) (x ∷ xs) (suc k) entry is P here there = reopened_slot place slot xs k entry is P here (λ ne. there (λ same. ne (omega arith)))
-
-pub map-reopened : (place : ℕ) (entries : List Record)
-    → ((k q : ℕ) (entry : Record) → slice_get entries k ≡ Some entry → entry.end ≡ Some q → q < place) → map (reopened place) entries ≡ entries
-map-reopened place [] below = refl
-map-reopened place (x ∷ xs) below =
-    ap (λ end. with x.grant end ∷ map (reopened place) xs) (same x.end refl)
-    ∙ ap (λ r. x ∷ r) (map-reopened place xs (λ k q entry at of. below (suc k) q entry at of))
-  where
-    same : (end : Option ℕ) → x.end ≡ end → end_below place end ≡ end
-    same None is = refl
-    same (Some q) is = rw (lt-ltb q place (below 0 q x refl is)) refl
-
 pub end_below-some : (place : ℕ) (end : Option ℕ) (q : ℕ) → end_below place end ≡ Some q → (end ≡ Some q) × (q < place)
 end_below-some place None q is = absurd (cc)
 end_below-some place (Some p) q is =

@@ -13,9 +13,8 @@ use Rattle.model_base.specs.Privileges.{same_grantee, same_kind}
 use Rattle.model_base.specs.Records.{recorded}
 use Rattle.model_base.proofs.Replay.{by_cases}
 use Rattle.grants_base.specs.Index.{is_about, is_one_of, IsFirst, IsNext, is_to, passes_at}
-use Rattle.grants_base.specs.Sides.{AreAscending, Indexes, IsPopped, IsPushed, by_side, holder_code, is_made_by, same_side, side_of, slots_from, slots_under, to_side}
+use Rattle.grants_base.specs.Sides.{AreAscending, Indexes, IsPopped, IsPushed, by_side, holder_code, is_made_by, same_side, side_of, slots_from, to_side}
 use Rattle.model_base.specs.Ranks.{kind_code}
-use Rattle.grants_base.specs.declared.index.Index.{Index}
 use Rattle.grants_base.specs.declared.index.HolderKey.{HolderKey}
 use Rattle.grants_base.proofs.Indexing.{code-same, first_as, other_order}
 use Rattle.grants_base.proofs.Walks.{length-recorded}
@@ -127,38 +126,38 @@ front {X} xs x =
 -- an index that was told of one slot more, and of one less
 module _ (passes : Grantee → Kind → ℕ → Grant → Bool) (side : Grant → HolderKey)
     (same : (holder : Grantee) (kind : Kind) (table : ℕ) (grant : Grant) → same_side (side grant) (side_of holder kind table) ≡ passes holder kind table grant) where
-  pub indexes_more : (old new : Index) (entries : List Record) (entry : Record) (slot : ℕ) → slot ≡ length entries → Indexes passes old entries
+  pub indexes_more : (old new : HolderKey → List ℕ) (entries : List Record) (entry : Record) (slot : ℕ) → slot ≡ length entries → Indexes passes old entries
       → IsPushed (side entry.grant) slot old new → Indexes passes new (entries ++ entry ∷ [])
   indexes_more old new entries entry slot last indexes told = λ user kind table.
       let at = side_of user kind table in
       told at
-      ∙ ap (λ b. if b then slots_under old at ++ slot ∷ [] else slots_under old at) (same user kind table entry.grant)
+      ∙ ap (λ b. if b then old at ++ slot ∷ [] else old at) (same user kind table entry.grant)
       ∙ ap (λ (slots : List ℕ). if passes user kind table entry.grant then slots ++ slot ∷ [] else slots) (indexes user kind table)
       ∙ sym (more (passes user kind table) entries entry slot last)
 
-  pub indexes_less : (old new : Index) (entries : List Record) (entry : Record) → Indexes passes old (entries ++ entry ∷ [])
+  pub indexes_less : (old new : HolderKey → List ℕ) (entries : List Record) (entry : Record) → Indexes passes old (entries ++ entry ∷ [])
       → IsPopped (side entry.grant) old new → Indexes passes new entries
   indexes_less old new entries entry indexes told = λ user kind table.
       let at = side_of user kind table in
       let was = slots_from (passes user kind table) 0 (recorded entries) in
       let here = indexes user kind table ∙ more (passes user kind table) entries entry (length entries) refl in
       told at
-      ∙ ap (λ b. if b then take (length (slots_under old at) - 1) (slots_under old at) else slots_under old at) (same user kind table entry.grant)
+      ∙ ap (λ b. if b then take (length (old at) - 1) (old at) else old at) (same user kind table entry.grant)
       ∙ ap (λ (slots : List ℕ). if passes user kind table entry.grant then take (length slots - 1) slots else slots) here
       ∙ by_cases (passes user kind table entry.grant) (λ yes. rw yes (front was (length entries))) (λ no. rw no refl)
 
 -- with the same grants
-pub indexes_as : (passes : Grantee → Kind → ℕ → Grant → Bool) (index : Index) (entries now : List Record) → recorded now ≡ recorded entries → Indexes passes index entries → Indexes passes index now
+pub indexes_as : (passes : Grantee → Kind → ℕ → Grant → Bool) (index : HolderKey → List ℕ) (entries now : List Record) → recorded now ≡ recorded entries → Indexes passes index entries → Indexes passes index now
 indexes_as passes index entries now grants indexes = λ user kind table. indexes user kind table ∙ ap (slots_from (passes user kind table) 0) (sym grants)
 
 -- the slots of an index rise, and what it finds is found among the grants
-module _ (passes : Grantee → Kind → ℕ → Grant → Bool) (index : Index) (entries : List Record) (user : Grantee) (kind : Kind) (table : ℕ) (indexes : Indexes passes index entries) where
-  pub slots_rise : AreAscending (slots_under index (side_of user kind table))
+module _ (passes : Grantee → Kind → ℕ → Grant → Bool) (index : HolderKey → List ℕ) (entries : List Record) (user : Grantee) (kind : Kind) (table : ℕ) (indexes : Indexes passes index entries) where
+  pub slots_rise : AreAscending (index (side_of user kind table))
   slots_rise = subst AreAscending (sym (indexes user kind table)) (rising (passes user kind table) 0 (recorded entries))
 
-  pub next_found : (from : ℕ) (found : Option ℕ) → IsFirst (is_one_of (slots_under index (side_of user kind table))) from found → IsNext (passes user kind table) (recorded entries) from found
+  pub next_found : (from : ℕ) (found : Option ℕ) → IsFirst (is_one_of (index (side_of user kind table))) from found → IsNext (passes user kind table) (recorded entries) from found
   next_found from found is =
-      first_as (is_one_of (slots_under index (side_of user kind table))) (passes_at (passes user kind table) (recorded entries))
+      first_as (is_one_of (index (side_of user kind table))) (passes_at (passes user kind table) (recorded entries))
       (λ k. ap (λ slots. is_one_of slots k) (indexes user kind table) ∙ among (passes user kind table) (recorded entries) k) from found is
 
 -- one slot more, and then one less

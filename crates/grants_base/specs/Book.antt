@@ -104,12 +104,6 @@ cut_book place book = record {
 abbrev pub reopened : ℕ → Record → Record
 reopened place entry = record { grant = entry.grant; end = end_below place entry.end }
 
--- the records, of which that of a slot is as it was at a place
-abbrev pub reopen_slot : ℕ → ℕ → List Record → List Record
-reopen_slot place slot [] = []
-reopen_slot place zero (entry ∷ entries) = reopened place entry ∷ entries
-reopen_slot place (suc slot) (entry ∷ entries) = entry ∷ reopen_slot place slot entries
-
 -- whether the grant and its end lie below the place
 abbrev pub lies_below : ℕ → Record → Bool
 lies_below place entry = nat_lt entry.grant.place place && option_map_or (λ end. nat_lt end place) entry.end true

@@ -1,5 +1,5 @@
 -- What is in force of a privilege, and when it was lost last.
-use Rattle.std.specs.Prelude.{◌≡◌, ◌==◌, ◌&&◌, ◌||◌, not, ℕ, Bool, true, false, nat_lt, Option, Some, None, List, [], ◌∷◌, is_none, slice_get, if◌then◌else◌}
+use Rattle.std.specs.Prelude.{◌≡◌, ◌==◌, ◌&&◌, ◌||◌, not, ℕ, Bool, true, false, nat_lt, Option, Some, None, List, [], ◌∷◌, ◌++◌, is_none, slice_get, if◌then◌else◌}
 use Rattle.std.specs.Bool.{OnFalse, OnTrue}
 use Rattle.model_base.specs.declared.deed.Grant.{Grant}
 use Rattle.model_base.specs.declared.deed.Grantee.{Grantee}
@@ -8,7 +8,10 @@ use Rattle.model_base.specs.declared.deed.Record.{Record}
 use Rattle.grants_base.specs.Index.{is_one_of, is_to}
 use Rattle.grants_base.specs.SlotSet.{HasGained, HasLost}
 use Rattle.grants_base.specs.GrantorSet.{HasGainedBy, HasLostBy, has_by}
+use Rattle.std.specs.declared.alloc.Global.{Global}
+use Rattle.std.specs.declared.boxed.Box.{Box}
 use Rattle.grants_base.specs.declared.grantor_set.Granted.{Granted}
+use Rattle.grants_base.specs.declared.force.Given.{Given}
 
 -- the later of two places, of which either may be missing
 abbrev pub later_of : Option ℕ → Option ℕ → Option ℕ
@@ -79,6 +82,56 @@ AreByGrantors passes entries slots =
 abbrev pub force_of : Bool → Privilege → Force
 force_of true privilege = privilege.with_option
 force_of false privilege = privilege.plain
+
+-- the slots of some grants in force, those of grants with the option, and all under their grantors
+pub record GrantSlots : Type 0 where
+  pub plain : List ℕ
+  pub with_option : List ℕ
+  pub by : List Granted
+
+abbrev pub no_grant_slots : GrantSlots
+no_grant_slots = record { plain = []; with_option = []; by = [] }
+
+-- all of them, or those with the option
+abbrev pub slots_given : Bool → GrantSlots → List ℕ
+slots_given true held = held.with_option
+slots_given false held = held.plain
+
+-- what is held by one grant, if there is one
+abbrev pub held_by_one : Option Given → GrantSlots
+held_by_one None = no_grant_slots
+held_by_one (Some given) = record {
+  plain = given.slot ∷ [];
+  with_option = if given.option then given.slot ∷ [] else [];
+  by = record { grantor = given.grantor; slot = given.slot } ∷ [];
+}
+
+-- and by the others, if there are any
+abbrev pub held_by_others : Option (Box GrantSlots Global) → GrantSlots
+held_by_others None = no_grant_slots
+held_by_others (Some others) = others.value
+
+-- the privilege that both give, and the last places at which a grant, and one with the option, left force
+abbrev pub privilege_of : GrantSlots → GrantSlots → Option ℕ → Option ℕ → Privilege
+privilege_of one others lost lost_with_option = record {
+  plain = record { slots = one.plain ++ others.plain; lost = lost };
+  with_option = record { slots = one.with_option ++ others.with_option; lost = lost_with_option };
+  by = one.by ++ others.by;
+}
+
+-- what is held by one grant more, which gives the option or not
+pub record HasGainedGrant (granted : Granted) (option : Bool) (old new : GrantSlots) : Type 0 where
+  pub plain : HasGained granted.slot old.plain new.plain
+  pub with_option : OnTrue option (HasGained granted.slot old.with_option new.with_option)
+  pub without_option : OnFalse option (new.with_option ≡ old.with_option)
+  pub by : HasGainedBy granted old.by new.by
+
+-- and by one less
+pub record HasLostGrant (granted : Granted) (option : Bool) (old new : GrantSlots) : Type 0 where
+  pub plain : HasLost granted.slot old.plain new.plain
+  pub with_option : OnTrue option (HasLost granted.slot old.with_option new.with_option)
+  pub without_option : OnFalse option (new.with_option ≡ old.with_option)
+  pub by : HasLostBy granted old.by new.by
 
 -- what is kept with the option changes so if the grant has it, and else not at all
 abbrev pub IsForceChanged : Bool → (Force → Force → Type 0) → Privilege → Privilege → Type 0

@@ -1,5 +1,5 @@
 -- The grants in force under each grantee, kind and table, as they are kept and found.
-use Rattle.std.specs.Prelude.{◌≡◌, ℕ, Bool, true, List, slice_get, unwrap_or}
+use Rattle.std.specs.Prelude.{◌≡◌, ℕ, Bool, true, List, [], slice_get, unwrap_or}
 use Rattle.std.specs.Bool.{OnFalse, OnTrue}
 use Rattle.std.specs.HashMap.{get}
 use Rattle.model_base.specs.declared.deed.Grant.{Grant}
@@ -12,15 +12,27 @@ use Rattle.grants_base.specs.Sides.{same_side, side_of}
 use Rattle.grants_base.specs.View.{View, entries, slot_at}
 use Rattle.grants_base.specs.declared.force.NextBy.{NextBy}
 use Rattle.grants_base.specs.declared.force.NextInForce.{NextInForce}
-use Rattle.grants_base.specs.declared.in_force.InForceIndex.{InForceIndex}
+use Rattle.grants_base.specs.declared.in_force.GranteeIndex.{GranteeIndex}
+use Rattle.grants_base.specs.declared.in_force.Side.{Side}
 use Rattle.grants_base.specs.declared.index.HolderKey.{HolderKey}
 
+abbrev pub no_side : Side
+no_side = record { made = []; privilege = no_privilege }
+
 -- what an index keeps under a side
-abbrev pub privilege_under : InForceIndex → HolderKey → Privilege
-privilege_under index side = unwrap_or (get same_side index.sides side) no_privilege
+abbrev pub side_under : GranteeIndex → HolderKey → Side
+side_under index key = unwrap_or (get same_side index.sides key) no_side
+
+-- the slots of all grants under a side
+abbrev pub made_under : GranteeIndex → HolderKey → List ℕ
+made_under index key = (side_under index key).made
+
+-- and what is in force of them
+abbrev pub privilege_under : GranteeIndex → HolderKey → Privilege
+privilege_under index key = (side_under index key).privilege
 
 -- what the index keeps under one side has changed so, and nothing else
-abbrev pub IsChanged : HolderKey → (Privilege → Privilege → Type 0) → InForceIndex → InForceIndex → Type 0
+abbrev pub IsChanged : HolderKey → (Privilege → Privilege → Type 0) → GranteeIndex → GranteeIndex → Type 0
 IsChanged side Change old new =
     (other : HolderKey) → OnTrue (same_side side other) (Change (privilege_under old other) (privilege_under new other))
     × OnFalse (same_side side other) (privilege_under new other ≡ privilege_under old other)
@@ -31,7 +43,7 @@ pub record IsPrivilegeOf (grantee : Grantee) (kind : Kind) (table : ℕ) (entrie
   pub by : AreByGrantors (is_to grantee kind table) entries privilege.by
 
 -- an index that is whole keeps under each grantee, kind and table what is in force of the records
-abbrev pub KeepsInForce : InForceIndex → List Record → Type 0
+abbrev pub KeepsInForce : GranteeIndex → List Record → Type 0
 KeepsInForce index entries =
     index.is_whole ≡ true → (grantee : Grantee) (kind : Kind) (table : ℕ)
     → IsPrivilegeOf grantee kind table entries (privilege_under index (side_of grantee kind table))

@@ -49,25 +49,22 @@ side_word side = bit_xor (bit_xor side.holder (side.table * 2 ^ 34 % 2 ^ 64)) (s
 abbrev pub slots_under : Index → HolderKey → List ℕ
 slots_under index side = unwrap_or (get same_side index.sides side) []
 
--- the index has no slots
-abbrev pub IsEmpty : Index → Type 0
-IsEmpty index = (side : HolderKey) → slots_under index side ≡ []
+-- there are no slots under any side
+abbrev pub IsEmpty : (HolderKey → List ℕ) → Type 0
+IsEmpty slots = (side : HolderKey) → slots side ≡ []
 
--- the index has under each side what another has
-abbrev pub IsSame : Index → Index → Type 0
-IsSame old new = (other : HolderKey) → slots_under new other ≡ slots_under old other
+-- there are under each side those that were there
+abbrev pub IsSame : (HolderKey → List ℕ) → (HolderKey → List ℕ) → Type 0
+IsSame old new = (other : HolderKey) → new other ≡ old other
 
 -- and under one side a slot more, which is the last
-abbrev pub IsPushed : HolderKey → ℕ → Index → Index → Type 0
-IsPushed side slot old new =
-    (other : HolderKey) → slots_under new other
-    ≡ (if same_side side other then slots_under old other ++ slot ∷ [] else slots_under old other)
+abbrev pub IsPushed : HolderKey → ℕ → (HolderKey → List ℕ) → (HolderKey → List ℕ) → Type 0
+IsPushed side slot old new = (other : HolderKey) → new other ≡ (if same_side side other then old other ++ slot ∷ [] else old other)
 
 -- or all but the last under one side
-abbrev pub IsPopped : HolderKey → Index → Index → Type 0
+abbrev pub IsPopped : HolderKey → (HolderKey → List ℕ) → (HolderKey → List ℕ) → Type 0
 IsPopped side old new =
-    (other : HolderKey) → slots_under new other
-    ≡ (if same_side side other then take (length (slots_under old other) - 1) (slots_under old other) else slots_under old other)
+    (other : HolderKey) → new other ≡ (if same_side side other then take (length (old other) - 1) (old other) else old other)
 
 -- each slot lies below the later ones
 abbrev pub AreAscending : List ℕ → Type 0
@@ -80,8 +77,8 @@ slots_from passes slot [] = []
 slots_from passes slot (grant ∷ grants) =
     if passes grant then slot ∷ slots_from passes (slot + 1) grants else slots_from passes (slot + 1) grants
 
--- under each holder, kind and table the index has the slots of the records whose grants pass for these, in order
-abbrev pub Indexes : (Grantee → Kind → ℕ → Grant → Bool) → Index → List Record → Type 0
-Indexes passes index entries =
+-- under each holder, kind and table are the slots of the records whose grants pass for these, in order
+abbrev pub Indexes : (Grantee → Kind → ℕ → Grant → Bool) → (HolderKey → List ℕ) → List Record → Type 0
+Indexes passes slots entries =
     (holder : Grantee) (kind : Kind) (table : ℕ)
-    → slots_under index (side_of holder kind table) ≡ slots_from (passes holder kind table) 0 (recorded entries)
+    → slots (side_of holder kind table) ≡ slots_from (passes holder kind table) 0 (recorded entries)

@@ -1,12 +1,11 @@
 //! Tables and records in order.
 
-ghost use Rattle.std.specs.Prelude.{filter, nat_lt, vec_capacity, vec_len, ◌+◌, ◌≤◌, ◌≡◌, ◌<◌, ◌++◌, ℕ, All, Some, length, slice_get, take};
+ghost use Rattle.std.specs.Prelude.{filter, nat_lt, vec_capacity, vec_len, ◌+◌, ◌≤◌, ◌≡◌, ◌<◌, ◌++◌, ℕ, Some, length, slice_get, take};
 ghost use Rattle.model_base.specs.declared.deed.Record.{Record};
 ghost use Rattle.model_base.specs.Laws.{IsRising};
 ghost use Rattle.model_base.specs.Records.{recorded};
-ghost use Rattle.grants_base.specs.Book.{AreRising, end_slot, end_slots, lies_below, reopen_slot, reopened};
+ghost use Rattle.grants_base.specs.Book.{AreRising, end_slot, lies_below, reopened};
 ghost use Rattle.grants_base.specs.declared.entries.Creation.{Creation};
-ghost use Rattle.grants_base.specs.declared.entries.End.{End};
 
 use model_base::{Place, Record, User};
 
@@ -49,16 +48,6 @@ pub(crate) fn set_end(records: &mut [Record], slot: usize, place: Place)
     records[slot].end = Some(place);
 }
 
-/// Ends the records of the slots, one after the other.
-pub fn set_ends(records: &mut [Record], ends: &[End])
-    requires { All (λ (end : End). end.slot < length records.old) ends.now }
-    ensures { records.new ≡ end_slots records.old ends.now }
-{
-    for end in ends {
-        set_end(records, end.slot, end.place);
-    }
-}
-
 /// The record, without an end that doesn't lie below the place.
 pub fn reopened(entry: Record, place: Place) -> Record
     ensures { result ≡ reopened place entry }
@@ -87,13 +76,4 @@ pub fn records_below(records: &[Record], place: Place) -> usize
     ensures above { (k : ℕ) (entry : Record) → slice_get records.now k ≡ Some entry → result ≤ k → place ≤ entry.grant.place }
 {
     records.partition_point(|record| record.grant.place < place)
-}
-
-/// Forgets the end of a slot's record if it doesn't lie below the place.
-pub(crate) fn reopen_slot(records: &mut [Record], slot: usize, place: Place)
-    ensures { records.new ≡ reopen_slot place slot records.old }
-{
-    if slot < records.len() {
-        records[slot] = reopened(records[slot], place);
-    }
 }

@@ -1,11 +1,11 @@
 //! What is in force of a privilege, and when it was lost last.
 
-ghost use Rattle.std.specs.Prelude.{◌≡◌, OnErr, OnOk};
-ghost use Rattle.grants_base.specs.Force.{IsGranted, IsWithSlot, IsWithdrawn, IsWithoutSlot, force_of, later_of, no_force, no_privilege};
+ghost use Rattle.std.specs.Prelude.{◌≡◌, true, OnOk};
+ghost use Rattle.grants_base.specs.Force.{HasGainedGrant, HasLostGrant, IsGranted, IsWithdrawn, force_of, held_by_one, held_by_others, later_of, no_grant_slots, no_privilege, slots_given};
 ghost use Rattle.grants_base.specs.GrantorSet.{has_by};
 ghost use Rattle.grants_base.specs.Index.{IsFirst, is_one_of};
 
-use crate::grantor_set::{Granted, GrantorSet};
+use crate::grantor_set::{Granted, GrantorSet, lesser};
 use crate::slot_set::SlotSet;
 use model_base::{Place, User};
 use std::alloc::{AllocError, Global};
@@ -35,124 +35,243 @@ pub struct NextBy {
     pub slot: Option<usize>,
 }
 
-/// The slots of some grants in force, and the last place at which one of them left force.
+/// A grant in force: its slot, who made it, and whether it gives the option.
+#[derive(Clone, Copy)]
+struct Given {
+    slot: usize,
+    grantor: User,
+    option: bool,
+}
+
+/// The slot of the grant, if it isn't below another, nor without the option where that is asked for.
+fn slot_of(one: Option<Given>, option: bool, from: usize) -> Option<usize>
+    ensures { IsFirst (is_one_of (slots_given option (held_by_one one))) from result }
+{
+    match one {
+        Some(given) if from <= given.slot && (given.option || !option) => Some(given.slot),
+        _ => None,
+    }
+}
+
+/// The slot of the grant, if it isn't below another and the user made it.
+fn slot_by(one: Option<Given>, grantor: User, from: usize) -> Option<usize>
+    ensures { IsFirst (has_by (held_by_one one).by grantor) from result }
+{
+    match one {
+        Some(given) if from <= given.slot && given.grantor == grantor => Some(given.slot),
+        _ => None,
+    }
+}
+
+/// Some grants in force of a privilege: their slots, those of grants with the option, and all under the users who made them.
 #[derive(Drop)]
-pub(crate) struct InForce {
-    slots: SlotSet,
-    lost: Option<Place>,
-}
-
-impl Model for InForce {
-    ghost use Rattle.grants_base.specs.Force.{Force};
-
-    ghost Value = { Force };
-
-    ghost view = { λ force. record { slots = force.slots; lost = force.lost } };
-}
-
-impl InForce {
-    /// No slots. It doesn't allocate.
-    fn new(alloc: Global) -> Self
-        ensures { result ≡ no_force }
-    {
-        InForce {
-            slots: SlotSet::new(alloc),
-            lost: None,
-        }
-    }
-
-    /// Adds a slot. On `Err`, out of memory, nothing has changed.
-    fn push(&mut self, slot: usize) -> Result<(), AllocError>
-        ensures ok { OnOk result (IsWithSlot slot self.old self.new) }
-        ensures err { OnErr result (self.new ≡ self.old) }
-    {
-        self.slots.insert(slot)
-    }
-
-    /// Takes away a slot whose grant left force at a place.
-    #[inline(always)]
-    fn end(&mut self, slot: usize, place: Place)
-        ensures { IsWithoutSlot slot place self.old self.new }
-    {
-        self.slots.remove(slot);
-        self.lost = later(self.lost, Some(place));
-    }
-
-    /// The least slot at or above this one, and the last loss.
-    pub fn next(&self, from: usize) -> NextInForce
-        ensures slot { IsFirst (is_one_of (self.now).slots) from result.slot }
-        ensures lost { result.lost ≡ (self.now).lost }
-    {
-        NextInForce {
-            slot: self.slots.next(from),
-            lost: self.lost,
-        }
-    }
-}
-
-/// What is in force of one privilege: the grants that give it, and those that give it with the option.
-#[derive(Drop)]
-pub(crate) struct Privilege {
-    plain: InForce,
-    with_option: InForce,
+struct Others {
+    plain: SlotSet,
+    with_option: SlotSet,
     by: GrantorSet,
 }
 
-impl Model for Privilege {
-    ghost use Rattle.grants_base.specs.Force.{Privilege};
+impl Model for Others {
+    ghost use Rattle.grants_base.specs.Force.{GrantSlots};
 
-    ghost Value = { Privilege };
+    ghost Value = { GrantSlots };
 
-    ghost view = { λ privilege. record { plain = privilege.plain; with_option = privilege.with_option; by = privilege.by } };
+    ghost view = { λ others. record { plain = others.plain; with_option = others.with_option; by = others.by } };
 }
 
-impl Privilege {
+impl Others {
     /// No grants. It doesn't allocate.
-    pub fn new(alloc: Global) -> Self
-        ensures { result ≡ no_privilege }
+    fn new(alloc: Global) -> Self
+        ensures { result ≡ no_grant_slots }
     {
-        Privilege {
-            plain: InForce::new(alloc),
-            with_option: InForce::new(alloc),
+        Others {
+            plain: SlotSet::new(alloc),
+            with_option: SlotSet::new(alloc),
             by: GrantorSet::new(alloc),
         }
     }
 
     /// Adds the slot of a grant. On `Err`, out of memory.
-    #[inline(always)]
-    pub fn push(&mut self, granted: Granted, option: bool) -> Result<(), AllocError>
-        ensures { OnOk result (IsGranted granted option self.old self.new) }
+    fn push(&mut self, granted: Granted, option: bool) -> Result<(), AllocError>
+        ensures { OnOk result (HasGainedGrant granted option self.old self.new) }
     {
         let slot = granted.slot;
         self.by.insert(granted)?;
-        self.plain.push(slot)?;
+        self.plain.insert(slot)?;
         if option {
-            self.with_option.push(slot)?;
+            self.with_option.insert(slot)?;
         }
         Ok(())
     }
 
-    /// Takes away the slot of a grant that left force at a place.
-    pub fn end(&mut self, granted: &Granted, place: Place, option: bool)
-        ensures { IsWithdrawn granted.now place option self.old self.new }
+    /// Removes the slot of a grant.
+    fn remove(&mut self, granted: &Granted, option: bool)
+        ensures { HasLostGrant granted.now option self.old self.new }
     {
         let slot = granted.slot;
         self.by.remove(granted);
-        self.plain.end(slot, place);
+        self.plain.remove(slot);
         if option {
-            self.with_option.end(slot, place);
+            self.with_option.remove(slot);
         }
     }
 
-    /// The grants that give it, those with the option alone where it is asked for.
-    pub fn force(&self, option: bool) -> &InForce
-        ensures { result.now ≡ force_of option self.now }
+    /// The least slot at or above this one, of grants with the option where that is asked for.
+    fn next(&self, option: bool, from: usize) -> Option<usize>
+        ensures { IsFirst (is_one_of (slots_given option self.now)) from result }
     {
         if option {
-            &self.with_option
+            self.with_option.next(from)
         } else {
-            &self.plain
+            self.plain.next(from)
         }
+    }
+
+    /// The least slot at or above this one of a grant by the user.
+    fn next_by(&self, grantor: User, from: usize) -> Option<usize>
+        ensures { IsFirst (has_by self.now.by grantor) from result }
+    {
+        self.by.next(grantor, from)
+    }
+}
+
+/// Takes the grant away, if it is of this slot, and returns whether all that is said of it is the same.
+fn take_one(one: &mut Option<Given>, granted: &Granted, option: bool) -> bool
+    ensures { result ≡ true → HasLostGrant granted.now option (held_by_one one.old) (held_by_one one.new) }
+{
+    match *one {
+        Some(given) if given.slot == granted.slot => {
+            *one = None;
+            given.grantor == granted.grantor && given.option == option
+        }
+        _ => true,
+    }
+}
+
+/// Adds the slot of a grant to the others, which take a heap block from the first on. On `Err`, out of memory.
+fn push_other(
+    others: &mut Option<Box<Others>>,
+    alloc: Global,
+    granted: Granted,
+    option: bool,
+) -> Result<(), AllocError>
+    ensures { OnOk result (HasGainedGrant granted option (held_by_others others.old) (held_by_others others.new)) }
+{
+    if let Some(held) = others {
+        return held.push(granted, option);
+    }
+    let mut first = Others::new(alloc);
+    first.push(granted, option)?;
+    *others = Some(Box::new(alloc, first)?);
+    Ok(())
+}
+
+/// Removes the slot of a grant from the others.
+fn remove_other(others: &mut Option<Box<Others>>, granted: &Granted, option: bool)
+    ensures { HasLostGrant granted.now option (held_by_others others.old) (held_by_others others.new) }
+{
+    if let Some(held) = others {
+        held.remove(granted, option);
+    }
+}
+
+/// The least slot of the others at or above this one, of grants with the option where that is asked for.
+fn next_other(others: &Option<Box<Others>>, option: bool, from: usize) -> Option<usize>
+    ensures { IsFirst (is_one_of (slots_given option (held_by_others others.now))) from result }
+{
+    match others {
+        Some(held) => held.next(option, from),
+        None => None,
+    }
+}
+
+/// The least slot of the others at or above this one of a grant by the user.
+fn next_other_by(others: &Option<Box<Others>>, grantor: User, from: usize) -> Option<usize>
+    ensures { IsFirst (has_by (held_by_others others.now).by grantor) from result }
+{
+    match others {
+        Some(held) => held.next_by(grantor, from),
+        None => None,
+    }
+}
+
+/// What is in force of one privilege, and the last places at which one of its grants, and one with the option, left force. A single grant
+/// takes no heap block.
+#[derive(Drop)]
+pub(crate) struct Privilege {
+    one: Option<Given>,
+    others: Option<Box<Others>>,
+    lost: Option<Place>,
+    lost_with_option: Option<Place>,
+}
+
+impl Model for Privilege {
+    ghost use Rattle.grants_base.specs.Force.{Privilege, held_by_one, held_by_others, privilege_of};
+
+    ghost Value = { Privilege };
+
+    ghost view = { λ it. privilege_of (held_by_one it.one) (held_by_others it.others) it.lost it.lost_with_option };
+}
+
+impl Privilege {
+    /// No grants. It doesn't allocate.
+    pub fn new() -> Self
+        ensures { result ≡ no_privilege }
+    {
+        Privilege {
+            one: None,
+            others: None,
+            lost: None,
+            lost_with_option: None,
+        }
+    }
+
+    /// Adds the slot of a grant. On `Err`, out of memory.
+    #[inline(always)]
+    pub fn push(&mut self, alloc: Global, granted: Granted, option: bool) -> Result<(), AllocError>
+        ensures { OnOk result (IsGranted granted option self.old self.new) }
+    {
+        if self.one.is_none() {
+            self.one = Some(Given {
+                slot: granted.slot,
+                grantor: granted.grantor,
+                option,
+            });
+            return Ok(());
+        }
+        push_other(&mut self.others, alloc, granted, option)
+    }
+
+    /// Takes away the slot of a grant that left force at a place, and returns whether what was known of the slot is the same.
+    pub fn end(&mut self, granted: &Granted, place: Place, option: bool) -> bool
+        ensures { result ≡ true → IsWithdrawn granted.now place option self.old self.new }
+    {
+        if !take_one(&mut self.one, granted, option) {
+            return false;
+        }
+        remove_other(&mut self.others, granted, option);
+        self.lost = later(self.lost, Some(place));
+        if option {
+            self.lost_with_option = later(self.lost_with_option, Some(place));
+        }
+        true
+    }
+
+    /// The next slot at or above this one, and the last loss; of grants with the option, where it is asked for.
+    pub fn next(&self, option: bool, from: usize) -> NextInForce
+        ensures slot { IsFirst (is_one_of (force_of option self.now).slots) from result.slot }
+        ensures lost { result.lost ≡ (force_of option self.now).lost }
+    {
+        let slot = lesser(
+            slot_of(self.one, option, from),
+            next_other(&self.others, option, from),
+        );
+        let lost = if option {
+            self.lost_with_option
+        } else {
+            self.lost
+        };
+        NextInForce { slot, lost }
     }
 
     /// The next slot at or above this one of a grant by the user.
@@ -160,7 +279,10 @@ impl Privilege {
         ensures { IsFirst (has_by self.now.by grantor) from result.slot }
     {
         NextBy {
-            slot: self.by.next(grantor, from),
+            slot: lesser(
+                slot_by(self.one, grantor, from),
+                next_other_by(&self.others, grantor, from),
+            ),
         }
     }
 }

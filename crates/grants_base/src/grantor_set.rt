@@ -36,7 +36,7 @@ impl Model for GrantorSet {
 }
 
 /// What is found by one of two searches: the lesser slot, where both find one.
-fn lesser(slot: Option<usize>, other: Option<usize>) -> Option<usize>
+pub(crate) fn lesser(slot: Option<usize>, other: Option<usize>) -> Option<usize>
     ensures { (p q : ℕ → Bool) (from : ℕ) → IsFirst p from slot → IsFirst q from other → IsFirst (λ k. p k || q k) from result }
 {
     match (slot, other) {

@@ -94,7 +94,7 @@ pub(crate) fn next_slot(slots: &[usize], from: usize) -> Option<usize>
 
 /// Some slots in the order in which they were added. A single one takes no heap block.
 #[derive(Drop)]
-struct Slots {
+pub(crate) struct Slots {
     first: Option<usize>,
     later: Vec<usize>,
 }
@@ -110,7 +110,7 @@ impl Model for Slots {
 
 impl Slots {
     /// No slots. It doesn't allocate.
-    fn new(alloc: Global) -> Self
+    pub fn new(alloc: Global) -> Self
         ensures { result ≡ [] }
     {
         Slots {
@@ -121,7 +121,7 @@ impl Slots {
 
     /// Adds a slot last. On `Err`, out of memory, the slots are as they were.
     #[inline(always)]
-    fn push(&mut self, slot: usize) -> Result<(), AllocError>
+    pub fn push(&mut self, slot: usize) -> Result<(), AllocError>
         ensures ok { OnOk result (self.new ≡ self.old ++ slot ∷ []) }
         ensures err { OnErr result (self.new ≡ self.old) }
     {
@@ -134,7 +134,7 @@ impl Slots {
     }
 
     /// Takes the last slot away, if there is one.
-    fn pop(&mut self)
+    pub fn pop(&mut self)
         ensures { self.new ≡ take (length self.old - 1) self.old }
     {
         if self.later.pop().is_none() {
@@ -143,7 +143,7 @@ impl Slots {
     }
 
     /// The least slot at or above this one, in a time that grows with the logarithm of their number.
-    fn next(&self, from: usize) -> Option<usize>
+    pub fn next(&self, from: usize) -> Option<usize>
         requires { AreAscending self.now }
         ensures { IsFirst (is_one_of self.now) from result }
     {
@@ -155,7 +155,7 @@ impl Slots {
     }
 }
 
-/// The slots under each grantee or grantor, kind and table. A side is found in a time that doesn't grow with their number, on average.
+/// The slots under each grantor, kind and table. A side is found in a time that doesn't grow with their number, on average.
 #[derive(Drop)]
 pub(crate) struct Index {
     alloc: Global,
@@ -165,7 +165,7 @@ pub(crate) struct Index {
 impl Index {
     /// No slots, and sides are found under this seed. It doesn't allocate.
     pub fn seeded(alloc: Global, seed: HashSeed) -> Self
-        ensures { IsEmpty result }
+        ensures { IsEmpty (slots_under result) }
     {
         Index {
             alloc,
@@ -175,8 +175,8 @@ impl Index {
 
     /// Adds a slot last under a side. On `Err`, out of memory, the slots are as they were.
     pub fn push(&mut self, side: HolderKey, slot: usize) -> Result<(), AllocError>
-        ensures ok { OnOk result (IsPushed side slot self.old self.new) }
-        ensures err { OnErr result (IsSame self.old self.new) }
+        ensures ok { OnOk result (IsPushed side slot (slots_under self.old) (slots_under self.new)) }
+        ensures err { OnErr result (IsSame (slots_under self.old) (slots_under self.new)) }
     {
         let slots = self.sides.entry(side)?.or_insert(Slots::new(self.alloc));
         slots.push(slot)
@@ -184,7 +184,7 @@ impl Index {
 
     /// Takes the last slot under a side away, if there is one.
     pub fn pop(&mut self, side: &HolderKey)
-        ensures { IsPopped side.now self.old self.new }
+        ensures { IsPopped side.now (slots_under self.old) (slots_under self.new) }
     {
         if let Some(slots) = self.sides.get_mut(side) {
             slots.pop();

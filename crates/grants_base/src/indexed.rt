@@ -1,36 +1,34 @@
 //! Records that are found by their grantees and by their grantors.
 
-ghost use Rattle.std.specs.Prelude.{◌+◌, ◌-◌, ◌≡◌, ◌<◌, ◌++◌, ◌∷◌, [], true, ℕ, All, IfSome, OnErr, OnOk, Some, length, map, slice_get, take};
+ghost use Rattle.std.specs.Prelude.{◌+◌, ◌-◌, ◌≡◌, ◌<◌, ◌≤◌, ◌++◌, ◌∷◌, [], true, ℕ, All, IfSome, IsSomeAnd, List, OnErr, OnOk, Some, length, map, slice_get, take};
 ghost use Rattle.model_base.specs.Records.{recorded};
 ghost use Rattle.grants_base.specs.Book.{end_slot, end_slots, lies_below, reopened, unended};
 ghost use Rattle.grants_base.specs.Force.{gives_by, gives_to, is_in_force};
-ghost use Rattle.grants_base.specs.InForce.{IsNextInForce, KeepsInForce};
+ghost use Rattle.grants_base.specs.InForce.{IsNextInForce, KeepsInForce, made_under};
 ghost use Rattle.model_base.specs.Laws.{IsRising};
 ghost use Rattle.model_base.specs.declared.deed.Record.{Record};
 ghost use Rattle.grants_base.specs.Index.{IsFirst, IsNext, is_by, is_to};
-ghost use Rattle.grants_base.specs.Marks.{AreInOrder, HasEnds};
-ghost use Rattle.grants_base.specs.Sides.{IsPushed, IsSame, by_side, side_by, to_side};
+ghost use Rattle.grants_base.specs.Marks.{EndBy};
+ghost use Rattle.grants_base.specs.Sides.{IsPushed, IsSame, by_side, side_by, slots_under, to_side};
 ghost use Rattle.grants_base.specs.declared.entries.End.{End};
 
-use crate::endings::{Ending, note, note_by_place, pop_from, reaches};
-use crate::entries::{End, reopen_slot, set_end};
-use crate::force::{NextBy, NextInForce};
-use crate::in_force::InForceIndex;
-use crate::index::{HolderKey, Index, side_of, to_side};
+use crate::entries::{End, reopened, set_end};
+use crate::force::{NextBy, NextInForce, later};
+use crate::in_force::GranteeIndex;
+use crate::index::{HolderKey, Index, side_of};
 use crate::records::Holder;
 use model_base::{Grant, Grantee, HashSeed, Kind, Place, Record, Table, User};
 use std::alloc::{AllocError, Global};
 use std::marker::Model;
 
-/// Records in the order in which they were added, each by its slot. Those of one user are found by an index, those that ended at
-/// some place by another, and those in force by a third, so that nothing goes through all of them.
+/// Records in the order in which they were added, each by its slot. Those by one user are found by an index, and those to one, with those
+/// in force, by another, so that no search goes through all of them. No record ends after `last_end`.
 #[derive(Drop)]
 pub struct IndexedRecords {
     records: Vec<Record>,
-    to: Index,
     by: Index,
-    endings: Vec<Ending>,
-    in_force: InForceIndex,
+    last_end: Option<Place>,
+    in_force: GranteeIndex,
 }
 
 impl Model for IndexedRecords {
@@ -42,7 +40,7 @@ impl Model for IndexedRecords {
 
     ghost view = { λ indexed. indexed.records.items };
 
-    ghost invariant = { λ indexed. AreIndexed indexed.records.items indexed.to indexed.by indexed.endings.items indexed.in_force };
+    ghost invariant = { λ indexed. AreIndexed indexed.records.items indexed.by indexed.last_end indexed.in_force };
 }
 
 /// What is looked up for a grantor, a kind and a table: a grantor is looked up as the user that it is.
@@ -63,55 +61,86 @@ fn by_side(grant: &Grant) -> HolderKey
     side_by(grant.grantor, grant.kind, grant.table)
 }
 
-/// Adds the slot of a grant last under its grantee and its grantor, or under neither: then memory ran out.
-fn push_slot(to: &mut Index, by: &mut Index, grant: &Grant, slot: usize) -> Result<(), AllocError>
-    ensures to { OnOk result (IsPushed (to_side grant.now) slot to.old to.new) }
-    ensures by { OnOk result (IsPushed (by_side grant.now) slot by.old by.new) }
-    ensures err_to { OnErr result (IsSame to.old to.new) }
-    ensures err_by { OnErr result (IsSame by.old by.new) }
+/// Adds the slot of a grant last under its grantor and its grantee, or under neither: then memory ran out.
+fn push_slot(
+    by: &mut Index,
+    in_force: &mut GranteeIndex,
+    grant: &Grant,
+    slot: usize,
+) -> Result<(), AllocError>
+    ensures to { OnOk result (IsPushed (to_side grant.now) slot (made_under in_force.old) (made_under in_force.new)) }
+    ensures by { OnOk result (IsPushed (by_side grant.now) slot (slots_under by.old) (slots_under by.new)) }
+    ensures kept { OnOk result ((entries : List Record) → slot ≡ length entries → KeepsInForce in_force.old entries
+        → KeepsInForce in_force.new (entries ++ unended grant.now ∷ [])) }
+    ensures err_to { OnErr result (IsSame (made_under in_force.old) (made_under in_force.new)) }
+    ensures err_by { OnErr result (IsSame (slots_under by.old) (slots_under by.new)) }
+    ensures err_kept { OnErr result ((entries : List Record) → KeepsInForce in_force.old entries → KeepsInForce in_force.new entries) }
 {
-    let side = to_side(grant);
-    to.push(side, slot)?;
-    if let Err(refused) = by.push(by_side(grant), slot) {
-        to.pop(&side);
+    let side = by_side(grant);
+    by.push(side, slot)?;
+    if let Err(refused) = in_force.push(grant, slot) {
+        by.pop(&side);
         return Err(refused);
     }
     Ok(())
 }
 
-/// Forgets the ends that don't lie below the place, which are noted.
-fn reopen(records: &mut [Record], endings: &mut Vec<Ending>, place: Place)
-    requires noted { HasEnds endings.old.items records.old }
-    requires order { AreInOrder endings.old.items }
-    ensures reopened { records.new ≡ map (reopened place) records.old }
-    ensures noted { HasEnds endings.new.items records.new }
-    ensures order { AreInOrder endings.new.items }
+/// Forgets the ends that don't lie below the place.
+fn reopen(records: &mut [Record], place: Place)
+    ensures { records.new ≡ map (reopened place) records.old }
 {
-    while let Some(ending) = pop_from(endings, place) {
-        reopen_slot(records, ending.slot, place);
+    for entry in records.iter_mut() {
+        *entry = reopened(*entry, place);
     }
 }
 
 /// Ends the record of a slot.
-fn end_one(records: &mut [Record], in_force: &mut InForceIndex, end: &End)
+fn end_one(
+    records: &mut [Record],
+    in_force: &mut GranteeIndex,
+    last_end: &mut Option<Place>,
+    end: &End,
+)
     requires slot { end.now.slot < length records.old }
     requires kept { KeepsInForce in_force.old records.old }
+    requires last { EndBy last_end.old records.old }
     ensures ended { records.new ≡ end_slot records.old end.now.slot end.now.place }
+    ensures made { IsSame (made_under in_force.old) (made_under in_force.new) }
     ensures kept { KeepsInForce in_force.new records.new }
+    ensures last { EndBy last_end.new records.new }
 {
     in_force.end(&records[end.slot], end.slot, end.place);
     set_end(records, end.slot, end.place);
+    *last_end = later(*last_end, Some(end.place));
 }
 
 /// Ends the records of the slots, one after the other.
-fn end_each(records: &mut [Record], in_force: &mut InForceIndex, ends: &[End])
+fn end_each(
+    records: &mut [Record],
+    in_force: &mut GranteeIndex,
+    last_end: &mut Option<Place>,
+    ends: &[End],
+)
     requires slots { All (λ (end : End). end.slot < length records.old) ends.now }
     requires kept { KeepsInForce in_force.old records.old }
+    requires last { EndBy last_end.old records.old }
     ensures ended { records.new ≡ end_slots records.old ends.now }
+    ensures made { IsSame (made_under in_force.old) (made_under in_force.new) }
     ensures kept { KeepsInForce in_force.new records.new }
+    ensures last { EndBy last_end.new records.new }
 {
     for end in ends {
-        end_one(records, in_force, end);
+        end_one(records, in_force, last_end, end);
+    }
+}
+
+/// Whether the place, if there is one, lies below another.
+fn ended_below(last_end: Option<Place>, place: Place) -> bool
+    ensures { result ≡ true → (end : ℕ) → IsSomeAnd last_end (λ last. end ≤ last) → end < place }
+{
+    match last_end {
+        Some(end) => end < place,
+        None => true,
     }
 }
 
@@ -138,27 +167,25 @@ impl IndexedRecords {
     pub fn seeded(alloc: Global, seed: HashSeed) -> Self
         ensures { result ≡ [] }
     {
-        IndexedRecords::begun(alloc, seed, InForceIndex::seeded(alloc, seed))
+        IndexedRecords::begun(alloc, seed, true)
     }
 
     /// No records, which are found under this seed. Those in force are not kept by themselves. It doesn't allocate.
     pub(crate) fn plain(alloc: Global, seed: HashSeed) -> Self
         ensures { result ≡ [] }
     {
-        IndexedRecords::begun(alloc, seed, InForceIndex::silent(alloc))
+        IndexedRecords::begun(alloc, seed, false)
     }
 
-    /// No records, with an index of those in force.
-    fn begun(alloc: Global, seed: HashSeed, in_force: InForceIndex) -> Self
-        requires { KeepsInForce in_force [] }
+    /// No records, with or without an index of those in force.
+    fn begun(alloc: Global, seed: HashSeed, is_whole: bool) -> Self
         ensures { result ≡ [] }
     {
         IndexedRecords {
             records: Vec::new(alloc),
-            to: Index::seeded(alloc, seed),
             by: Index::seeded(alloc, seed),
-            endings: Vec::new(alloc),
-            in_force,
+            last_end: None,
+            in_force: GranteeIndex::seeded(alloc, seed, is_whole),
         }
     }
 
@@ -176,32 +203,22 @@ impl IndexedRecords {
     {
         self.records.reserve(1)?;
         let slot = self.records.len();
-        push_slot(&mut self.to, &mut self.by, &grant, slot)?;
-        self.in_force.push(&grant, slot);
+        push_slot(&mut self.by, &mut self.in_force, &grant, slot)?;
         self.records.push_reserved(Record { grant, end: None });
         Ok(())
     }
 
-    /// Ends records by their slots, one after the other. On `Err`, out of memory, the records are as they were.
-    pub fn end(&mut self, ends: &[End]) -> Result<(), AllocError>
+    /// Ends records by their slots, one after the other.
+    pub fn end(&mut self, ends: &[End])
         requires { All (λ (end : End). end.slot < length self.old) ends.now }
-        ensures ok { OnOk result (self.new ≡ end_slots self.old ends.now) }
-        ensures err { OnErr result (self.new ≡ self.old) }
+        ensures { self.new ≡ end_slots self.old ends.now }
     {
-        note(&mut self.endings, ends)?;
-        end_each(&mut self.records, &mut self.in_force, ends);
-        Ok(())
-    }
-
-    /// The same, where the places of the ends don't rise: they are noted in the order of their places.
-    fn end_mixed(&mut self, ends: &[End]) -> Result<(), AllocError>
-        requires { All (λ (end : End). end.slot < length self.old) ends.now }
-        ensures ok { OnOk result (self.new ≡ end_slots self.old ends.now) }
-        ensures err { OnErr result (self.new ≡ self.old) }
-    {
-        note_by_place(&mut self.endings, ends)?;
-        end_each(&mut self.records, &mut self.in_force, ends);
-        Ok(())
+        end_each(
+            &mut self.records,
+            &mut self.in_force,
+            &mut self.last_end,
+            ends,
+        );
     }
 
     /// Adds the records of grants last, and then ends records by their slots. On `Err`, out of memory, more records may be after
@@ -214,7 +231,7 @@ impl IndexedRecords {
         for grant in grants {
             self.push(*grant)?;
         }
-        self.end_mixed(ends)?;
+        self.end(ends);
         Ok(())
     }
 
@@ -235,12 +252,12 @@ impl IndexedRecords {
         }
     }
 
-    /// Forgets the ends that don't lie below the place. It looks at the records of those alone.
+    /// Forgets the ends that don't lie below the place. It goes once through the records.
     pub fn reopen(&mut self, place: Place)
         ensures { self.new ≡ map (reopened place) self.old }
     {
         self.in_force.forget();
-        reopen(&mut self.records, &mut self.endings, place);
+        reopen(&mut self.records, place);
     }
 
     /// Takes the last record away, if there is one.
@@ -248,8 +265,7 @@ impl IndexedRecords {
         ensures shorter { self.new ≡ take (length self.old - 1) self.old }
     {
         if let Some(record) = self.records.pop() {
-            self.in_force.forget();
-            self.to.pop(&to_side(&record.grant));
+            self.in_force.pop(&record.grant);
             self.by.pop(&by_side(&record.grant));
         }
     }
@@ -289,14 +305,14 @@ impl IndexedRecords {
         requires { IsRising (recorded self.now) }
         ensures { result ≡ true → (slot : ℕ) (entry : Record) → slice_get self.now slot ≡ Some entry → lies_below place entry ≡ true }
     {
-        made_below(&self.records, place) && !reaches(&self.endings, place)
+        made_below(&self.records, place) && ended_below(self.last_end, place)
     }
 
     /// The least slot at or above this one whose grant is to the holder's grantee, of its kind on its table.
     pub fn next_to(&self, holder: Holder, from: usize) -> Option<usize>
         ensures { IsNext (is_to holder.grantee holder.kind holder.table) (recorded self.now) from result }
     {
-        self.to.next(&side_of(holder), from)
+        self.in_force.next_made(&side_of(holder), from)
     }
 
     /// The least slot at or above this one whose grant is by the user, of the kind on the table.

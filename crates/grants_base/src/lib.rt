@@ -8,7 +8,6 @@
 //! and doesn't allocate. On `Err`, out of memory, the records are as they were.
 #![tactic(auto)]
 
-mod endings;
 mod entries;
 mod force;
 mod grantor_set;
@@ -20,7 +19,7 @@ mod records;
 mod slot_set;
 
 pub use entries::{
-    Creation, End, append_tables, lies_below, records_below, reopened, set_ends, tables_below,
+    Creation, End, append_tables, lies_below, records_below, reopened, tables_below,
 };
 pub use force::{NextBy, NextInForce, later};
 pub use index::holder_code;

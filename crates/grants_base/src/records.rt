@@ -88,6 +88,17 @@ pub trait Records {
         None
     }
 
+    /// What `next_in_force` finds from the first slot on, if the view keeps it. None where it has to be sought. It doesn't allocate.
+    fn kept_in_force(&mut self, holder: Holder, option: bool) -> Option<NextInForce>
+        ensures next { IfSome result (λ next.
+            ShowsNextInForce (gives_to holder.grantee holder.kind holder.table option) (shown self.old) 0 next) }
+        ensures same { shown self.new ≡ shown self.old }
+        ensures still { asked self.new ≡ asked self.old }
+    {
+        let _asked = (holder, option);
+        None
+    }
+
     /// The slot that `next_in_force` finds, without the last end. None where that isn't known unless one goes through the slots. It doesn't
     /// allocate.
     fn next_slot_in_force(&mut self, holder: Holder, option: bool, from: usize) -> Option<NextBy>

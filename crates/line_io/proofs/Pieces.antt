@@ -1,5 +1,5 @@
 -- Lines that are cut out of pieces of the input.
-use Rattle.std.proofs.Common.{◌≡◌, ◌≢◌, ℕ, zero, suc, ◌+◌, ◌-◌, ◌<◌, ◌≤◌, eqb, List, [], ◌∷◌, ◌++◌, length, take, drop, min, Option, Some, None, refl, inl, inr, ap, sym, ◌∙◌, subst, arith, append_assoc, add-one, slice_index, slice_range, IsTrue, is_some, ◌↔◌, take-take, drop-drop, length-drop, length-append}
+use Rattle.std.proofs.Common.{◌≡◌, ◌≢◌, ℕ, zero, suc, ◌+◌, ◌-◌, ◌<◌, ◌≤◌, eqb, List, [], ◌∷◌, ◌++◌, length, take, drop, min, Option, Some, None, refl, inl, inr, ap, sym, ◌∙◌, subst, arith, append_assoc, add-one, slice_index, slice_range, take-take, drop-drop, length-drop, length-append}
 use Rattle.std.specs.Io.KnownBytes.{Keeps, IsAtEnd, prepend_known}
 use Rattle.std.proofs.KnownBytes.{Consumes-kept, Consumes-nil, Consumes-trans}
 use borrow.Author.Tests.{eqb-true, eq-eqb}
@@ -199,12 +199,6 @@ whole_range xs i j = take-take (j - i) (j - i) (drop i xs) (omega arith)
 pub piece_kept : (now then kept items : List ℕ) (start end : ℕ) → now ≡ then → then ≡ take 4097 (kept ++ take (end - start) (slice_range items start end)) → now ≡ take 4097 (kept ++ slice_range items start end)
 piece_kept now then kept items start end same is =
     same ∙ is ∙ ap (λ (w : List ℕ). take 4097 (kept ++ w)) (whole_range items start end)
-
--- a line feed was found, just where a whole line is ahead
-pub feed_ahead : (bytes : List ℕ) (r : Option ℕ) → IsFirstByte (is_byte 10) bytes r → IsTrue (is_some r) ↔ HasLine bytes
-unfolding NoFeed
-feed_ahead bytes None free = (λ so. absurd (cc so), λ some. absurd (no_feed bytes (length bytes) free some.0 some.1 some.2))
-feed_ahead bytes (Some n) f = (λ _. (n, f.0.high, eqb-true (slice_index bytes n) 10 f.1), λ _. refl)
 
 -- where no line feed was found no whole line is ahead
 pub none_ahead : (bytes now : List ℕ) → HasLine bytes → now ≡ bytes → IsFirstByte (is_byte 10) now None → ⊥

@@ -1,12 +1,10 @@
--- The fault of a run: from a fault of reading, and its text.
-use Rattle.std.specs.Prelude.{ℕ, List, codes}
-use Rattle.line_io.specs.declared.fault.ReadFault.{ReadFault}
+-- Which faults reading ends with, and what each fault says.
+use Rattle.std.specs.Prelude.{◌≡◌, ◌⊎◌, ℕ, List, codes}
 use Rattle.line_io.specs.declared.fault.EngineFault.{EngineFault}
 
--- a fault of reading, as a fault of the run
-abbrev pub of_reading : ReadFault → EngineFault
-of_reading ReadFault.NoMemory = EngineFault.NoMemory
-of_reading ReadFault.Read = EngineFault.Read
+-- a fault of reading
+abbrev pub IsOfReading : EngineFault → Type 0
+IsOfReading fault = (fault ≡ EngineFault.NoMemory) ⊎ (fault ≡ EngineFault.Read)
 
 -- what a fault says to a reader
 abbrev pub engine_fault_text : EngineFault → List ℕ

@@ -1,31 +1,11 @@
 //! Why reading, writing or a run ended early.
 ghost use Rattle.std.specs.Prelude.{◌≡◌};
-ghost use Rattle.line_io.specs.Faults.{engine_fault_text, of_reading};
+ghost use Rattle.line_io.specs.Faults.{engine_fault_text};
 ghost use Rattle.line_io.specs.declared.fault.EngineFault.{EngineFault};
-ghost use Rattle.line_io.specs.declared.fault.ReadFault.{ReadFault};
 
 use std::alloc::{AllocError, AllocFailed};
 use std::fmt;
 use thiserror::Error;
-
-/// Why no further line was read.
-#[derive(Clone, Copy, Debug, PartialEq, Eq, Error)]
-pub enum ReadFault {
-    /// No memory was left for the line.
-    #[error("out of memory")]
-    NoMemory,
-    /// The reader returned an error.
-    #[error("cannot read")]
-    Read,
-}
-
-impl From<AllocError> for ReadFault {
-    ghost from_gives = { λ _ e. e ≡ ReadFault.NoMemory };
-
-    fn from(_e: AllocError) -> ReadFault {
-        ReadFault::NoMemory
-    }
-}
 
 /// A write or a flush failed, or a write took no byte.
 #[derive(Clone, Copy, Debug, PartialEq, Eq, Error)]
@@ -76,17 +56,6 @@ impl<T: Drop> From<AllocFailed<T>> for EngineFault {
 
     fn from(_e: AllocFailed<T>) -> EngineFault {
         EngineFault::NoMemory
-    }
-}
-
-impl From<ReadFault> for EngineFault {
-    ghost from_gives = { λ fault e. e ≡ of_reading fault };
-
-    fn from(fault: ReadFault) -> EngineFault {
-        match fault {
-            ReadFault::NoMemory => EngineFault::NoMemory,
-            ReadFault::Read => EngineFault::Read,
-        }
     }
 }
 

@@ -20,7 +20,7 @@ mod writing;
 
 pub use counted::Counted;
 pub use cutting::cut_line;
-pub use fault::{EngineFault, ReadFault, WriteFault};
+pub use fault::{EngineFault, WriteFault};
 pub use laws::{lines_laws, writing_laws};
 pub use limits::{
     BUFFER_BYTES, FIRST_BUFFER_BYTES, KEPT_BYTES, MOST_GIVEN_BYTES, MOST_LINE_BYTES, PENDING_BYTES,

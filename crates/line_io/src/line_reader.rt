@@ -1,13 +1,14 @@
 //! A reader of lines that keeps at most `KEPT_BYTES` of a line.
-ghost use Rattle.std.specs.Prelude.{◌≡◌, ◌<◌, ◌≤◌, ◌+◌, ◌^◌, ◌↔◌, [], ◌++◌, IfOk, OnOk, IfErr, OnErr, IsTrue, MatchBool, drop, length, take, vec_len};
+ghost use Rattle.std.specs.Prelude.{◌≡◌, ◌<◌, ◌≤◌, ◌+◌, ◌^◌, [], ◌++◌, IfOk, OnOk, IfErr, OnErr, MatchBool, drop, length, take, vec_len};
 ghost use Rattle.std.specs.Io.KnownBytes.{Keeps, IsAtEnd, prepend_known};
 ghost use Rattle.memchr.specs.Find.{IsFirstByte, is_byte};
+ghost use Rattle.line_io.specs.Faults.{IsOfReading};
 ghost use Rattle.line_io.specs.Known.{raised, ReadSome, TookLine, HadSome};
 ghost use Rattle.line_io.specs.Lines.{HasLine};
 ghost use Rattle.line_io.specs.declared.limits.TheConstants.{BUFFER_BYTES, FIRST_BUFFER_BYTES, KEPT_BYTES};
 
 use super::counted::Counted;
-use super::fault::ReadFault;
+use super::fault::EngineFault;
 use super::limits::{BUFFER_BYTES, FIRST_BUFFER_BYTES, KEPT_BYTES, MOST_GIVEN_BYTES};
 use memchr::memchr;
 use std::alloc::{AllocError, Global};
@@ -121,14 +122,6 @@ impl LineReader {
         memchr(b'\n', &self.buffer[self.start..self.end])
     }
 
-    /// Whether a whole line, with its LF, was read ahead. Then the next call of `next_line` finds it, and
-    /// doesn't read.
-    pub fn has_line(&self) -> bool
-        ensures { IsTrue result ↔ HasLine (ahead self.now) }
-    {
-        self.first_feed().is_some()
-    }
-
     #[tactic(auto, using(crate::proofs::Pieces::empty_range))]
     /// Takes a longer buffer where the last read filled this one and it may grow. Where memory is
     /// refused the buffer stays as it is.
@@ -150,7 +143,7 @@ impl LineReader {
 
     #[tactic(auto, using(crate::proofs::Pieces::empty_range))]
     /// Reads ahead where nothing is ahead. False at the end of what the reader gives.
-    fn refill<R: Read>(&mut self, reader: &mut Counted<R>) -> Result<bool, ReadFault>
+    fn refill<R: Read>(&mut self, reader: &mut Counted<R>) -> Result<bool, EngineFault>
         requires { self.old.start ≡ self.old.end }
         ensures bytes { OnOk result (Keeps (R.remaining reader.old.inner)
             (prepend_known (ahead self.new) (R.remaining reader.new.inner))) }
@@ -160,7 +153,7 @@ impl LineReader {
         ensures given { OnOk result (reader.new.given ≡ reader.old.given + length (ahead self.new)) }
         ensures bound { 0 < length (ahead self.new) → reader.new.given ≤ MOST_GIVEN_BYTES + BUFFER_BYTES }
         ensures ok { OnOk result (reader.new.errors ≡ reader.old.errors) }
-        ensures err { IfErr result (λ f. (f ≡ ReadFault.Read)
+        ensures err { IfErr result (λ f. (f ≡ EngineFault.Read)
             × (reader.new.errors ≡ raised reader.old.errors)) }
         ensures gone { OnErr result (self.new.start ≡ self.new.end) }
         ensures left { ReadSome (R.remaining reader.old.inner) (R.remaining reader.new.inner) }
@@ -175,13 +168,13 @@ impl LineReader {
                 self.end = n;
                 return Ok(n > 0);
             }
-            Err(_) => return Err(ReadFault::Read),
+            Err(_) => return Err(EngineFault::Read),
         }
     }
 
     #[tactic(auto, using(crate::proofs::Pieces::empty_range))]
     /// Reads ahead if nothing is ahead. False at the end of what the reader gives.
-    fn look_ahead<R: Read>(&mut self, reader: &mut Counted<R>) -> Result<bool, ReadFault>
+    fn look_ahead<R: Read>(&mut self, reader: &mut Counted<R>) -> Result<bool, EngineFault>
         requires { 0 < length (ahead self.old) → reader.old.given ≤ MOST_GIVEN_BYTES + BUFFER_BYTES }
         ensures bytes { OnOk result (Keeps
             (prepend_known (ahead self.old) (R.remaining reader.old.inner))
@@ -194,7 +187,7 @@ impl LineReader {
             ≡ reader.old.given + length (ahead self.new)) }
         ensures bound { 0 < length (ahead self.new) → reader.new.given ≤ MOST_GIVEN_BYTES + BUFFER_BYTES }
         ensures ok { OnOk result (reader.new.errors ≡ reader.old.errors) }
-        ensures err { IfErr result (λ f. (f ≡ ReadFault.Read)
+        ensures err { IfErr result (λ f. (f ≡ EngineFault.Read)
             × (reader.new.errors ≡ raised reader.old.errors)) }
         ensures gone { OnErr result (ahead self.new ≡ []) }
         ensures left { ReadSome (R.remaining reader.old.inner) (R.remaining reader.new.inner) }
@@ -231,22 +224,23 @@ impl LineReader {
 
     #[tactic(auto, using(crate::proofs::Pieces::line_start))]
     /// Takes the rest of the line, and keeps it after what is kept, up to `KEPT_BYTES` in all.
-    fn rest_of_line<R: Read>(&mut self, reader: &mut Counted<R>) -> Result<(), ReadFault>
+    fn rest_of_line<R: Read>(&mut self, reader: &mut Counted<R>) -> Result<(), EngineFault>
         requires some { 0 < length (ahead self.old) }
         requires given { reader.old.given ≤ MOST_GIVEN_BYTES + BUFFER_BYTES }
         ensures line { OnOk result (TookLine
             (prepend_known (ahead self.old) (R.remaining reader.old.inner))
             (prepend_known (ahead self.new) (R.remaining reader.new.inner))
             self.old.kept.items self.new.kept.items) }
-        ensures read { result ≡ Err ReadFault.Read → reader.new.errors ≡ raised reader.old.errors }
-        ensures other { (result ≡ Err ReadFault.Read → ⊥)
+        ensures read { result ≡ Err EngineFault.Read → reader.new.errors ≡ raised reader.old.errors }
+        ensures other { (result ≡ Err EngineFault.Read → ⊥)
             → reader.new.errors ≡ reader.old.errors }
+        ensures fault { IfErr result IsOfReading }
         ensures forward { OnOk result (
             (reader.old.given + length (ahead self.new) < reader.new.given + length (ahead self.old))
             × (reader.new.given ≤ MOST_GIVEN_BYTES + BUFFER_BYTES)) }
         ensures bound { 0 < length (ahead self.new) → reader.new.given ≤ MOST_GIVEN_BYTES + BUFFER_BYTES }
         ensures left { ReadSome (R.remaining reader.old.inner) (R.remaining reader.new.inner) }
-        ensures gone { result ≡ Err ReadFault.Read → ahead self.new ≡ [] }
+        ensures gone { result ≡ Err EngineFault.Read → ahead self.new ≡ [] }
         ensures is_kept { self.new.is_kept ≡ self.old.is_kept }
         ensures most { most_ahead self.new ≡ most_ahead self.old }
     {
@@ -269,7 +263,7 @@ impl LineReader {
     /// `Read` comes only where the reader returned an error, or had given `MOST_GIVEN_BYTES`. After an error the part of a line that was
     /// read is gone, and a further call may be made.
     #[inline(always)]
-    pub fn next_line<R: Read>(&mut self, reader: &mut Counted<R>) -> Result<bool, ReadFault>
+    pub fn next_line<R: Read>(&mut self, reader: &mut Counted<R>) -> Result<bool, EngineFault>
         requires { 0 < length (ahead self.old) → reader.old.given ≤ MOST_GIVEN_BYTES + BUFFER_BYTES }
         // What is still to come is what is ahead, and then what the reader has left.
         ensures line { IfOk result (λ found. MatchBool found
@@ -279,9 +273,10 @@ impl LineReader {
             × HadSome (prepend_known (ahead self.old) (R.remaining reader.old.inner)))
             (IsAtEnd (prepend_known (ahead self.old) (R.remaining reader.old.inner)))) }
         // An error of the reader is returned as such, and nothing else is.
-        ensures read { result ≡ Err ReadFault.Read → reader.new.errors ≡ raised reader.old.errors }
-        ensures other { (result ≡ Err ReadFault.Read → ⊥)
+        ensures read { result ≡ Err EngineFault.Read → reader.new.errors ≡ raised reader.old.errors }
+        ensures other { (result ≡ Err EngineFault.Read → ⊥)
             → reader.new.errors ≡ reader.old.errors }
+        ensures fault { IfErr result IsOfReading }
         // A line has a byte at least, so a loop over the lines ends.
         ensures given { IfOk result (λ found. MatchBool found
             ((reader.old.given + length (ahead self.new) < reader.new.given + length (ahead self.old))
@@ -292,7 +287,7 @@ impl LineReader {
         // What a further call requires holds after an error too.
         ensures bound { 0 < length (ahead self.new) → reader.new.given ≤ MOST_GIVEN_BYTES + BUFFER_BYTES }
         // After an error of the reader nothing of the line is ahead.
-        ensures gone { result ≡ Err ReadFault.Read → ahead self.new ≡ [] }
+        ensures gone { result ≡ Err EngineFault.Read → ahead self.new ≡ [] }
         ensures most { most_ahead self.new ≡ most_ahead self.old }
         // Where a whole line was read ahead, the reader isn't asked.
         ensures unread { HasLine (ahead self.old) → reader.new ≡ reader.old }

@@ -1,16 +1,11 @@
 //! What a line reads as, and room for it.
 
-ghost use Rattle.std.specs.Prelude.{◌≡◌, [], List, None, Option};
-ghost use Rattle.line_words.specs.declared.access.RawAccess.{RawAccess};
-ghost use Rattle.log_text.specs.declared.statement.RawDeed.{RawDeed};
-ghost use Rattle.log_text.specs.declared.statement.RawForm.{RawForm};
-ghost use Rattle.log_text.specs.declared.statement.RawStep.{RawStep};
+ghost use Rattle.std.specs.Prelude.{◌≡◌, [], None};
 
 use crate::statement::{RawDeed, RawForm, RawStatement, RawStep};
 use line_words::{Name, RawAccess};
 use model_base::Items;
 use std::alloc::Global;
-use std::mem;
 
 /// What a line reads as, where `read_into` leaves it: one line after another, so that none of it is moved, and memory is taken only where
 /// the room isn't enough. Before the first line, and after a line with a fault, nothing is known of it.
@@ -46,41 +41,27 @@ impl<'a> LineBuffers<'a> {
         }
     }
 
-    /// Takes the statement out of the room, with the memory of its accesses and steps.
-    pub(crate) fn take(&mut self, alloc: Global) -> RawStatement<'a>
-        requires { IsInGrammar (sentence_of self.old) }
-        ensures { result ≡ sentence_of self.old }
+    /// The statement that the line was read as.
+    pub(crate) fn into_statement(self) -> RawStatement<'a>
+        requires { IsInGrammar (sentence_of self) }
+        ensures { result ≡ sentence_of self.entry }
     {
-        if let Some(statement) = mem::replace(&mut self.other, None) {
+        let LineBuffers {
+            user,
+            accesses,
+            steps,
+            deed,
+            other,
+        } = self;
+        if let Some(statement) = other {
             return statement;
         }
-        let accesses = mem::replace(&mut self.accesses, Vec::new(alloc));
-        let steps = mem::replace(&mut self.steps, Vec::new(alloc));
         let form = RawForm::Run {
             accesses: Items::new(accesses),
             steps: Items::new(steps),
-            deed: mem::replace(&mut self.deed, None),
+            deed,
         };
-        RawStatement::of(same_name(&self.user), form)
-    }
-
-    /// Takes back what a statement was read into, with what is in it.
-    pub fn take_back(&mut self, statement: RawStatement<'a>)
-        ensures accesses { (accesses : List RawAccess) (steps : List RawStep) (deed : Option RawDeed)
-            → statement.entry.form ≡ RawForm.Run accesses steps deed → self.new.accesses.items ≡ accesses }
-        ensures steps { (accesses : List RawAccess) (steps : List RawStep) (deed : Option RawDeed)
-            → statement.entry.form ≡ RawForm.Run accesses steps deed → self.new.steps.items ≡ steps }
-    {
-        let (_user, form) = statement.into_parts();
-        if let RawForm::Run {
-            accesses,
-            steps,
-            ..
-        } = form
-        {
-            self.accesses = accesses.into_vec();
-            self.steps = steps.into_vec();
-        }
+        RawStatement::of(user, form)
     }
 }
 

@@ -10,4 +10,4 @@ mod line;
 mod steps;
 mod touching;
 
-pub use line::{one_spelling, parse_line, parse_line_in, read_into, read_line, reads_in_both};
+pub use line::{one_spelling, parse_line, parse_line_in, read_into, reads_in_both};

@@ -135,15 +135,6 @@ impl<'a> RawStatement<'a> {
         &self.form
     }
 
-    /// The user's name and what it asks for. It doesn't allocate.
-    pub fn into_parts(self) -> (Name<'a>, RawForm<'a>)
-        ensures user { result.0 ≡ self.entry.user }
-        ensures form { result.1 ≡ self.entry.form }
-        ensures grammar { IsInGrammar self.entry }
-    {
-        (self.user, self.form)
-    }
-
     /// The statement of these parts.
     pub(crate) fn of(user: Name<'a>, form: RawForm<'a>) -> RawStatement<'a>
         requires { IsInGrammar record { user = user; form = form } }

@@ -2,8 +2,8 @@
 //!
 //! `Catalog::admit` takes a statement as the next place, or refuses it by the first test that it fails; after a refusal
 //! the catalog is unchanged, and out of memory is returned only if no test refuses. `Log` keeps every statement.
-//! `LogTail` may `forget` the first: these go into a `Past`, which has no bytes, so clauses still speak of the whole log.
-//! `Catalog::foretell` numbers a statement before its turn, and the result holds whatever is admitted before it;
+//! `LogTail` may `forget` the first, into a `Past` of no bytes, so clauses speak of the whole log. A `LineLog` takes
+//! lines. `Catalog::foretell` numbers a statement before its turn, and the result holds whatever is admitted before it;
 //! `LogTail::pass_foretold` takes it, and `catch_up` learns another catalog's names.
 //!
 //! A name is found by its hash, and a statement costs its accesses and steps. Lists come from forgotten statements, by
@@ -15,6 +15,7 @@ mod catalog;
 mod foretelling;
 mod forgetting;
 mod growing;
+mod line_log;
 mod log;
 mod names;
 mod numbering;
@@ -28,6 +29,7 @@ mod testing;
 pub use catalog::Catalog;
 pub use foretelling::Recent;
 pub use forgetting::forget_first;
+pub use line_log::LineLog;
 pub use log::Log;
 pub use names::NameTable;
 pub use past::Past;

@@ -2,7 +2,7 @@
 
 use crate::catalog::Catalog;
 use crate::refused::Refused;
-use log_text::{RawStatement, Version};
+use log_text::{LineBuffers, RawStatement, Version};
 use model_base::{HashSeed, MOST_COLUMNS, MOST_PLACES, Place, Statement, Table, User};
 use std::alloc::Global;
 use std::marker::Model;
@@ -26,7 +26,9 @@ impl Model for Log {
 }
 
 impl Log {
-    ghost use Rattle.std.specs.Prelude.{◌≡◌, ◌<◌, ◌≤◌, Some, length, slice_get, All};
+    ghost use Rattle.std.specs.Prelude.{◌≡◌, ◌<◌, ◌≤◌, None, Some, length, slice_get, All};
+    ghost use Rattle.log_text.specs.LineBuffers.{sentence_of};
+    ghost use Rattle.log_text.specs.Statement.{IsInGrammar};
     ghost use Rattle.model_base.specs.Growing.{NeedsOwnTables};
     ghost use Rattle.sequencer.specs.Log.{empty_log, in_version, with_accepted};
     ghost use Rattle.sequencer.specs.Pushing.{Pushes};
@@ -80,6 +82,33 @@ impl Log {
         self.catalog
             .admit(statement, &mut room, &mut self.statements)?;
         Ok(place)
+    }
+
+    /// Takes a RUN that was read, as `push`, from where it stays.
+    fn push_run(&mut self, read: &LineBuffers<'_>) -> Result<Place, Refused>
+        requires run { read.now.other ≡ None }
+        requires grammar { IsInGrammar (sentence_of read.now) }
+        ensures { Pushes self.old (sentence_of read.now) result self.old self.new (with_accepted self.old (sentence_of read.now)) }
+    {
+        if self.statements.reserve(1).is_err() {
+            return Err(self.catalog.refused_run(read));
+        }
+        let place = self.catalog.places();
+        let mut room = self.catalog.no_room();
+        self.catalog
+            .admit_read(read, &mut room, &mut self.statements)?;
+        Ok(place)
+    }
+
+    /// Takes the statement that a line was read as, as `push`, from where it stays.
+    pub fn push_read(&mut self, read: &LineBuffers<'_>) -> Result<Place, Refused>
+        requires { IsInGrammar (sentence_of read.now) }
+        ensures { Pushes self.old (sentence_of read.now) result self.old self.new (with_accepted self.old (sentence_of read.now)) }
+    {
+        match &read.other {
+            Some(statement) => self.push(statement),
+            None => self.push_run(read),
+        }
     }
 
     /// How many statements were accepted, which is the place of the next one.

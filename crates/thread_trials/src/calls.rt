@@ -36,8 +36,8 @@ pub enum Verb {
 /// What a step results in.
 #[derive(Drop)]
 pub enum Said {
-    Tried(Tried),
-    Ran(Ran),
+    Tried(Result<Tried, AllocError>),
+    Ran(Result<Ran, AllocError>),
     Outcome(Result<Option<Outcome>, AllocError>),
     Seen(Seen),
     /// The place is done, with its first word and the first listed end.
@@ -77,8 +77,9 @@ pub fn parse_step(words: &[&str]) -> Attempt<(Verb, u64)> {
 /// Prints what a step results in.
 pub fn print_said(rt: &impl Print, number: u64, said: &Said) -> Attempt<()> {
     match said {
-        Said::Tried(tried) => println!(rt; "asked for {number}: {tried:?}")?,
-        Said::Ran(ran) => println!(rt; "asked for {number}: {ran:?}")?,
+        Said::Tried(Ok(tried)) => println!(rt; "asked for {number}: {tried:?}")?,
+        Said::Ran(Ok(ran)) => println!(rt; "asked for {number}: {ran:?}")?,
+        Said::Tried(Err(_)) | Said::Ran(Err(_)) => println!(rt; "asked for {number}: NoMemory")?,
         Said::Outcome(found) => println!(rt; "the outcome of {number}: {found:?}")?,
         Said::Seen(seen) => println!(rt; "  another pass looks at {number}: {seen:?}")?,
         Said::Stored(word, end) => println!(rt;
@@ -95,8 +96,8 @@ pub fn print_said(rt: &impl Print, number: u64, said: &Said) -> Attempt<()> {
 /// The call that was refused memory, if it was.
 fn refused_call(said: &Said) -> Option<&'static str> {
     match said {
-        Said::Tried(Tried::NoMemory) => Some("Batch::try_run"),
-        Said::Ran(Ran::NoMemory) => Some("run_place"),
+        Said::Tried(Err(_)) => Some("Batch::try_run"),
+        Said::Ran(Err(_)) => Some("run_place"),
         Said::Outcome(Err(_)) => Some("outcome"),
         _ => None,
     }

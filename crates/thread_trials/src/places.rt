@@ -26,7 +26,7 @@ pub trait Places: Fills {
         ensures { IsPassOf batch.now result.0 };
 
     /// Runs a place.
-    fn run(batch: &Batch<Self>, pass: Pass, index: usize) -> (Pass, Ran)
+    fn run(batch: &Batch<Self>, pass: Pass, index: usize) -> (Pass, Result<Ran, AllocError>)
         requires pass { IsPassOf batch.now pass }
         requires within { index < (Self.batch batch.now.key).size }
         ensures { IsPassOf batch.now result.0 };
@@ -45,7 +45,7 @@ impl Places for RangeKey<'_> {
         outcome(batch, pass, index)
     }
 
-    fn run(batch: &Batch<Self>, pass: Pass, index: usize) -> (Pass, Ran) {
+    fn run(batch: &Batch<Self>, pass: Pass, index: usize) -> (Pass, Result<Ran, AllocError>) {
         run_place(
             batch,
             pass,

@@ -8,7 +8,9 @@ ghost use Rattle.workers.specs.Placing.{HavePlaced};
 use crate::calls::{parse_step, print_made};
 use crate::places::Places;
 use crate::telling::Teller;
-use filling_base::{Advanced, Batch, BatchPlacer};
+use filling_base::{Batch, BatchPlacer};
+use model_base::Place;
+use std::alloc::AllocError;
 use trials_base::{Attempt, TrialFault, number_of, words_of};
 use words::{BatchData, Claimed, Holding, Pass};
 
@@ -139,6 +141,20 @@ pub fn print_row<K: Places, R: Print>(
     Ok(pass)
 }
 
+/// Prints the place that a placer placed, if it did.
+fn print_advanced(
+    rt: &impl Print,
+    partition: usize,
+    advanced: Result<Option<Place>, AllocError>,
+) -> Attempt<()> {
+    match advanced {
+        Ok(Some(place)) => println!(rt; "partition {partition}: Next({place})")?,
+        Ok(None) => println!(rt; "partition {partition}: End")?,
+        Err(_) => println!(rt; "partition {partition}: NoMemory")?,
+    }
+    Ok(())
+}
+
 /// Makes a step of a placer, again if it was refused memory, after which its partition has placed as much as before.
 fn print_placing<K: Places, P: BatchPlacer<K>, R: Print>(
     teller: &Teller<'_, R>,
@@ -159,12 +175,12 @@ fn print_placing<K: Places, P: BatchPlacer<K>, R: Print>(
     let mut reader = Holding::begin(reader);
     let front = batch.words().front(&mut reader, partition);
     let mut advanced = placer.advance(batch);
-    if advanced == Advanced::NoMemory {
+    if advanced.is_err() {
         let left = batch.words().front(&mut reader, partition);
         teller.refused("Placer::place_next", "as before", left == front)?;
         advanced = placer.advance(batch);
     }
-    println!(teller.rt; "partition {partition}: {advanced:?}")?;
+    print_advanced(teller.rt, partition, advanced)?;
     Ok(pass)
 }
 

@@ -68,9 +68,10 @@ fn try_placed<R: Threads + Wait + Print + Sync>(
     requires within { section.now.first < length log.now.statements }
     requires before { IsRunState log.now.statements section.now.first before.now.chains before.now.book }
 {
+    let _tail = log.tail();
     let (batch, pass) = placed(teller.alloc, log, before, section.first, partitions)?;
     if section.kind == Kind::Close {
-        return try_closed(teller, batch, pass, section.steps);
+        return try_closed(teller, before, batch, pass, section.steps);
     }
     let none = Vec::<Placer>::new(teller.alloc);
     Ok(try_batch(teller, &batch, pass, none, section).map(|_| ()))
@@ -93,10 +94,11 @@ fn try_stored<R: Print>(
         Ok(found) => found,
         Err(fault) => return Ok(Err(fault)),
     };
+    let _tail = log.tail();
     let (other, done) = placed(teller.alloc, log, before, section.first, partitions)?;
     let (batch, pass) = placed(teller.alloc, log, before, section.first, partitions)?;
     match print_storing(teller, &batch, pass, &other, done, &row) {
-        Ok(pass) => try_closed(teller, batch, pass, steps),
+        Ok(pass) => try_closed(teller, before, batch, pass, steps),
         Err(fault) => Ok(Err(fault)),
     }
 }

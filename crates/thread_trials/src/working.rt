@@ -5,6 +5,7 @@ ghost use Rattle.workers.specs.Placing.{HavePlaced};
 
 use crate::places::Places;
 use crate::telling::Teller;
+use engine::EngineFault;
 use filling_base::{Batch, BatchPlacer};
 use model_base::{DeedDone, Outcome, Place};
 use std::alloc::AllocError;
@@ -13,7 +14,7 @@ use std::sync::atomic::{AtomicUsize, Ordering};
 use std::thread::Threads;
 use trials_base::Attempt;
 use words::{BatchData, Pass};
-use workers::{Gate, Worked, Workers, run_workers};
+use workers::{Gate, Workers, run_workers};
 
 /// Counts the places that workers were known done.
 #[derive(Drop)]
@@ -32,7 +33,7 @@ impl Gate for Counting {
 /// What workers leave of places that add.
 #[derive(Clone, Copy)]
 pub struct Work {
-    worked: Worked,
+    worked: Result<(), EngineFault>,
     /// Whether each worker was given each place.
     told: bool,
     /// How many places have the output of the run in order.
@@ -111,7 +112,7 @@ pub fn work_of<K: Places + Sync, P: BatchPlacer<K> + Send, R: Threads + Wait + S
 impl Work {
     /// Whether all of this many places came out right, each run once.
     pub fn is_whole(&self, places: usize) -> bool {
-        self.worked == Worked::Done
+        self.worked.is_ok()
             && self.told
             && self.right == places
             && self.bodies == places as u64

@@ -1,6 +1,5 @@
 //! Why a trial ends without success.
 
-use bohm_base::ArgumentFault;
 use engine::EngineFault;
 use explain::ExplainFault;
 use log_text::LineFault;
@@ -48,10 +47,7 @@ pub enum TrialFault {
     /// A file isn't text, or not as it has to be.
     #[error("not text")]
     NotText,
-    /// The words of the command line can't be had.
-    #[error("cannot read the arguments")]
-    Arguments(#[from] ArgumentFault),
-    /// A file can't be read, or what is said can't be printed.
+    /// The words of the command line or a file can't be read, or what is said can't be printed.
     #[error("cannot read or print")]
     Io,
 }
@@ -67,7 +63,6 @@ impl TrialFault {
                 fault == EngineFault::NoMemory || fault == EngineFault::Spawn
             }
             TrialFault::Place(fault) => fault == ExplainFault::NoMemory,
-            TrialFault::Arguments(fault) => fault == ArgumentFault::NoMemory,
             _ => false,
         }
     }

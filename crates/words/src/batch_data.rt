@@ -17,7 +17,8 @@ pub const MOST_GRANTS_OF_A_PLACE: usize = 4 * MOST_GRANTEES;
 
 /// The constant data of a batch: which batch it is, whether all is placed before its words are made, and which slots have a word for their
 /// record's end. These are slots without an end before the batch, and every slot whose record a place of the batch ends by the serial run
-/// is among them. Each number has a limit, so a batch has fewer than 2^43 words.
+/// is among them. Each number has a limit, so a batch has fewer than 2^43 words. A trait, since the words of a batch are read and stored by
+/// these numbers alone, whatever its statements are.
 pub trait BatchData {
     ghost batch: { Self → Batch };
 

@@ -1,6 +1,8 @@
 -- A pass that goes on, and what it knows of the places.
-use Rattle.std.proofs.Common.{◌≡◌, ◌≢◌, ◌⊎◌, ◌<◌, ◌≤◌, ◌+◌, ◌++◌, ℕ, Bool, true, false, List, [], ◌∷◌, length, get_or, drop, All, IsPermutation, ap, refl, subst, sym, ◌∙◌, arith, inl, inr}
-use Rattle.std.specs.Prelude.{Result, Ok, Err, OnErr, OnOk}
+use Rattle.std.proofs.Common.{◌≡◌, ◌≢◌, ◌⊎◌, ◌<◌, ◌≤◌, ◌+◌, ◌++◌, ℕ, Bool, true, false, true≢false, List, [], ◌∷◌, length, get_or, drop, All, IsPermutation, ap, refl, subst, sym, ◌∙◌, arith, inl, inr}
+use Rattle.std.specs.Prelude.{Result, Ok, Err, IfErr, OnOk, is_ok}
+use Rattle.std.specs.declared.alloc.AllocError.{AllocError}
+use Rattle.line_io.specs.declared.fault.EngineFault.{EngineFault}
 use Rattle.std.proofs.lemmas.List.{append-nil, append_assoc}
 use Rattle.std.proofs.lemmas.List.Elements.{All-nil, All-push, All-same}
 use Rattle.std.proofs.lemmas.List.Sorted.{IsPermutation-append_right, IsPermutation-refl, IsPermutation-sym, IsPermutation-to_front, IsPermutation-trans}
@@ -9,12 +11,11 @@ use Rattle.words.specs.Passes.{PassState, cut_first, joined_pass}
 use Rattle.words.specs.Views.{In, KeepsFronts}
 use Rattle.bohm_core_base.specs.Batch.{Batch}
 use Rattle.filling_base.specs.declared.run.Tried.{Tried}
-use Rattle.filling_base.specs.declared.run.Tried.TheVariants.{Done, Busy, NotPlaced, NoMemory}
+use Rattle.filling_base.specs.declared.run.Tried.TheVariants.{Done, Busy, NotPlaced}
 use Rattle.filling_base.specs.Extending.{IsSamePass, OnlyLearns}
 use Rattle.filling_base.specs.Tries.{PlacedMeans, TriedMeans, UnplacedMeans}
-use Rattle.workers.specs.declared.work.Worked.{Worked}
-use Rattle.workers.specs.declared.work.Worked.TheVariants.{Done as WorkedDone, NoMemory as WorkedNoMemory, NotStarted}
-use Rattle.workers.specs.Working.{AreLeft, GoesOn, HasAsked, IsAnswered, IsMissed, IsStopped, KnowsAll, worse}
+use Rattle.workers.specs.Working.{AreLeft, GoesOn, HasAsked, IsAnswered, IsMissed, IsStopped, KnowsAll}
+use Rattle.workers.specs.Faults.{IsRunFault, run_outcome}
 
 pub stays : (pass : PassState) → GoesOn pass pass
 stays pass = record { table = refl; number = refl; knows = λ index known. known; fronts = ((λ placed. placed), (λ partition count has. has)) }
@@ -126,35 +127,26 @@ left_all size known rest left = record {
   every = λ index less. elim (left.every index less) [ inl none ↦ absurd none | inr there ↦ inr there ];
 }
 
-pub joined_all : (size : ℕ) (middle other : PassState) → KnowsAll size middle.view → KnowsAll size (joined_pass middle other).view
-joined_all size middle other all index less = in_first index middle.view.known other.view.known (all index less)
-
 -- whatever came of a place that was asked for, the pass knows what it knew; and the place, if it is done
-pub tells_on : (batch : Batch) (index : ℕ) (view after : Knowledge) (tried : Tried) → TriedMeans batch index view tried after
-    → (other : ℕ) → In other view.known → In other after.known
-tells_on batch index view after Done tells = tells.0.knows
-tells_on batch index view after (Busy held) tells = tells.0.knows
-tells_on batch index view after (NotPlaced partition) tells = tells.learns.goes.knows
-tells_on batch index view after NoMemory tells = tells.0.knows
+tells_on : (batch : Batch) (index : ℕ) (view after : Knowledge) (tried : Result Tried AllocError) → TriedMeans batch index view tried after
+    → ((other : ℕ) → In other view.known → In other after.known) × KeepsFronts view after
+tells_on batch index view after (Ok Done) tells = (tells.0.knows, tells.0.fronts)
+tells_on batch index view after (Ok (Busy held)) tells = (tells.0.knows, tells.0.fronts)
+tells_on batch index view after (Ok (NotPlaced partition)) tells = (tells.learns.goes.knows, tells.learns.goes.fronts)
+tells_on batch index view after (Err error) tells = (tells.0.knows, tells.0.fronts)
 
-pub tells_fronts : (batch : Batch) (index : ℕ) (view after : Knowledge) (tried : Tried) → TriedMeans batch index view tried after → KeepsFronts view after
-tells_fronts batch index view after Done tells = tells.0.fronts
-tells_fronts batch index view after (Busy held) tells = tells.0.fronts
-tells_fronts batch index view after (NotPlaced partition) tells = tells.learns.goes.fronts
-tells_fronts batch index view after NoMemory tells = tells.0.fronts
+pub tells_done : (batch : Batch) (index : ℕ) (view after : Knowledge) (tried : Result Tried AllocError) → TriedMeans batch index view tried after
+    → tried ≡ Ok Done → In index after.known
+tells_done batch index view after tried tells is = (rw is at tells).2
 
-pub tells_done : (batch : Batch) (index : ℕ) (view after : Knowledge) (tried : Tried) → TriedMeans batch index view tried after → tried ≡ Done
-    → In index after.known
-tells_done batch index view after tried tells is = (subst (λ (came : Tried). TriedMeans batch index view came after) is tells).2
-
-pub asked_on : (batch : Batch) (index : ℕ) (pass after : PassState) (tried : Tried) → IsSamePass pass after → TriedMeans batch index pass.view tried after.view
+pub asked_on : (batch : Batch) (index : ℕ) (pass after : PassState) (tried : Result Tried AllocError) → IsSamePass pass after → TriedMeans batch index pass.view tried after.view
     → GoesOn pass after
 asked_on batch index pass after tried same tells =
     record {
       table = same.table;
       number = same.number;
-      knows = tells_on batch index pass.view after.view tried tells;
-      fronts = tells_fronts batch index pass.view after.view tried tells;
+      knows = (tells_on batch index pass.view after.view tried tells).0;
+      fronts = (tells_on batch index pass.view after.view tried tells).1;
     }
 
 -- in a round, after this many places: which were found done, which weren't asked for yet, and which were missed
@@ -165,7 +157,7 @@ pub record IsAsking (batch : Batch) (pass after : PassState) (rest now : List �
   pub each : IsPermutation rest (done ++ now)
   pub is : now ≡ unasked ++ missed
   pub all : count + length unasked ≡ length rest
-  pub found : All (IsAnswered batch pass after Done) done
+  pub found : All (IsAnswered batch pass after (Ok Done)) done
   pub vain : All (IsMissed batch pass after) missed
 
 pub asking_none : (batch : Batch) (pass : PassState) (rest : List ℕ) → IsAsking batch pass pass rest rest 0
@@ -176,11 +168,11 @@ asking_none batch pass rest = record {
   each = IsPermutation-refl rest;
   is = sym (append-nil rest);
   all = omega arith;
-  found = All-nil (IsAnswered batch pass pass Done);
+  found = All-nil (IsAnswered batch pass pass (Ok Done));
   vain = All-nil (IsMissed batch pass pass);
 }
 
-answered_on : (batch : Batch) (pass before after : PassState) (answer : Tried) (index : ℕ) → GoesOn before after
+answered_on : (batch : Batch) (pass before after : PassState) (answer : Result Tried AllocError) (index : ℕ) → GoesOn before after
     → IsAnswered batch pass before answer index → IsAnswered batch pass after answer index
 answered_on batch pass before after answer index goes was =
     record { asks = was.asks; finds = was.finds; from = was.from; means = was.means; to = on_and_on was.finds before after was.to goes }
@@ -189,13 +181,13 @@ missed_on : (batch : Batch) (pass before after : PassState) (index : ℕ) → Go
     → IsMissed batch pass after index
 missed_on batch pass before after index goes was =
     elim was [
-      | inl held ↦ inl (held.0, answered_on batch pass before after (Busy held.0) index goes held.1)
-      | inr unplaced ↦ inr (unplaced.0, answered_on batch pass before after (NotPlaced unplaced.0) index goes unplaced.1)
+      | inl held ↦ inl (held.0, answered_on batch pass before after (Ok (Busy held.0)) index goes held.1)
+      | inr unplaced ↦ inr (unplaced.0, answered_on batch pass before after (Ok (NotPlaced unplaced.0)) index goes unplaced.1)
     ]
 
-found_on : (batch : Batch) (pass before after : PassState) (done : List ℕ) → GoesOn before after → All (IsAnswered batch pass before Done) done
-    → All (IsAnswered batch pass after Done) done
-found_on batch pass before after done goes found = λ k d less. answered_on batch pass before after Done (get_or done k d) goes (found k d less)
+found_on : (batch : Batch) (pass before after : PassState) (done : List ℕ) → GoesOn before after → All (IsAnswered batch pass before (Ok Done)) done
+    → All (IsAnswered batch pass after (Ok Done)) done
+found_on batch pass before after done goes found = λ k d less. answered_on batch pass before after (Ok Done) (get_or done k d) goes (found k d less)
 
 vain_on : (batch : Batch) (pass before after : PassState) (missed : List ℕ) → GoesOn before after → All (IsMissed batch pass before) missed
     → All (IsMissed batch pass after) missed
@@ -208,14 +200,14 @@ first_unasked index then [] missed count size is all less = absurd (omega (arith
 first_unasked index then (x ∷ others) missed count size is all less = (others, ap (drop 1) is, omega (arith, all))
 
 -- the pass asked for the first, with this outcome
-pub asked_first : (batch : Batch) (pass before after : PassState) (answer : Tried) (index : ℕ) → GoesOn pass before
+pub asked_first : (batch : Batch) (pass before after : PassState) (answer : Result Tried AllocError) (index : ℕ) → GoesOn pass before
     → GoesOn before after → TriedMeans batch index before.view answer after.view → IsAnswered batch pass after answer index
 asked_first batch pass before after answer index from goes means =
     record { asks = before; finds = after; from = from; means = means; to = stays after }
 
 pub asking_done : (batch : Batch) (pass before after : PassState) (index : ℕ) (rest now then : List ℕ) (count : ℕ)
     → IsAsking batch pass before rest now count → count < length rest → now ≡ index ∷ then → GoesOn before after
-    → IsAnswered batch pass after Done index → IsAsking batch pass after rest then (count + 1)
+    → IsAnswered batch pass after (Ok Done) index → IsAsking batch pass after rest then (count + 1)
 asking_done batch pass before after index rest now then count asking less is goes answered =
     let one = first_unasked index then asking.unasked asking.missed count (length rest) (sym is ∙ asking.is) asking.all less in
     record {
@@ -226,7 +218,7 @@ asking_done batch pass before after index rest now then count asking less is goe
           (subst (λ (xs : List ℕ). IsPermutation rest (asking.done ++ xs)) is asking.each);
       is = one.1;
       all = one.2;
-      found = All-push (IsAnswered batch pass after Done) asking.done index (found_on batch pass before after asking.done goes asking.found) answered;
+      found = All-push (IsAnswered batch pass after (Ok Done)) asking.done index (found_on batch pass before after asking.done goes asking.found) answered;
       vain = vain_on batch pass before after asking.missed goes asking.vain;
     }
 
@@ -278,51 +270,34 @@ pub stopped_before : (batch : Batch) (pass after : PassState) (rest now : List �
     → IsStopped batch pass rest after now
 stopped_before batch pass after rest now count asking = record { done = asking.done; found = asking.found; each = inl asking.each }
 
-pub stopped_at : (batch : Batch) (pass before after : PassState) (index : ℕ) (rest now then : List ℕ) (count : ℕ)
-    → IsAsking batch pass before rest now count → now ≡ index ∷ then → GoesOn before after → IsAnswered batch pass after NoMemory index
+pub stopped_at : (batch : Batch) (pass before after : PassState) (index : ℕ) (rest now then : List ℕ) (count : ℕ) (error : AllocError)
+    → IsAsking batch pass before rest now count → now ≡ index ∷ then → GoesOn before after → IsAnswered batch pass after (Err error) index
     → IsStopped batch pass rest after then
-stopped_at batch pass before after index rest now then count asking is goes refused = record {
+stopped_at batch pass before after index rest now then count error asking is goes refused = record {
   done = asking.done;
   found = found_on batch pass before after asking.done goes asking.found;
-  each = inr (index, refused, subst (λ (xs : List ℕ). IsPermutation rest (asking.done ++ xs)) is asking.each);
+  each = inr (index, error, refused, subst (λ (xs : List ℕ). IsPermutation rest (asking.done ++ xs)) is asking.each);
 }
 
--- what came of two workers is that all is done only if both resulted in that
-pub worse_done : (one other : Worked) → worse one other ≡ WorkedDone → one ≡ WorkedDone
-worse_done NotStarted other is = absurd (cc is)
-worse_done WorkedNoMemory NotStarted is = absurd (cc is)
-worse_done WorkedNoMemory WorkedNoMemory is = absurd (cc is)
-worse_done WorkedNoMemory WorkedDone is = absurd (cc is)
-worse_done WorkedDone other is = refl
+-- the run came to its end only if the work did, and failed as a run may
+pub run_worked : {S : Type 0} (started worked : Result (Unit {0}) S) → run_outcome started worked ≡ Ok tt → is_ok worked ≡ true
+run_worked (Err stopped) worked is = absurd (cc is)
+run_worked (Ok end) (Err stopped) is = absurd (cc is)
+run_worked (Ok end) (Ok done) is = refl
 
--- what holds of a worker that came to its end, where its outcome is that all is done; it isn't one that wasn't started
-pub ended_of : {A S P : Type 0} (ended : Result A S) (outcome : Worked) → OnErr ended (outcome ≡ WorkedNoMemory) → OnOk ended P
-    → outcome ≡ WorkedDone → P
-ended_of (Ok end) outcome err all is = all
-ended_of (Err stopped) outcome err all is = absurd (cc (err, is))
+pub run_faults : {S : Type 0} (started worked : Result (Unit {0}) S) → IfErr (run_outcome started worked) IsRunFault
+run_faults (Err stopped) worked = inr refl
+run_faults (Ok end) (Err stopped) = inl refl
+run_faults (Ok end) (Ok done) = tt
 
-pub not_unstarted : {A S : Type 0} (ended : Result A S) (outcome : Worked) → OnOk ended (outcome ≡ WorkedDone)
-    → OnErr ended (outcome ≡ WorkedNoMemory) → outcome ≢ NotStarted
-not_unstarted (Ok end) outcome ok err is = absurd (cc (ok, is))
-not_unstarted (Err stopped) outcome ok err is = absurd (cc (err, is))
+pub run_started : {S : Type 0} (worked : Result (Unit {0}) S) → run_outcome (Ok tt) worked ≢ Err EngineFault.Spawn
+run_started (Err stopped) is = cc is
+run_started (Ok end) is = cc is
 
 -- what holds of what came to its end
-pub at_end : {A S P : Type 0} (ended : Result A S) (end : A) → ended ≡ Ok end → OnOk ended P → P
-at_end (Ok same) end is ok = ok
-at_end (Err stopped) end is ok = absurd (cc is)
-
--- a worker that started, where all others started too
-pub worse_started : (one other : Worked) → one ≢ NotStarted → other ≡ WorkedDone → worse one other ≢ NotStarted
-worse_started NotStarted other started all is = started refl
-worse_started WorkedNoMemory NotStarted started all is = absurd (cc all)
-worse_started WorkedNoMemory WorkedNoMemory started all is = absurd (cc all)
-worse_started WorkedNoMemory WorkedDone started all is = absurd (cc is)
-worse_started WorkedDone other started all is = absurd (cc (all, is))
-
--- no thread was started for the only worker
-pub no_other : {A : Type 0} (xs : List A) (count : ℕ) → length xs + 1 ≡ count → count ≤ 1 → xs ≡ []
-no_other [] count each few = refl
-no_other (x ∷ xs) count each few = absurd (omega (arith, each, few))
+pub at_end : {A S P : Type 0} (ended : Result A S) → is_ok ended ≡ true → OnOk ended P → P
+at_end (Ok end) is ok = ok
+at_end (Err stopped) is ok = absurd (true≢false (sym is))
 
 -- a pass that only learnt goes on, and so does one that looked whether all is placed
 learnt_on : (pass after : PassState) → IsSamePass pass after → OnlyLearns pass.view after.view → GoesOn pass after
@@ -342,8 +317,3 @@ left_more size known after rest keeps left = record {
   within = left.within;
   every = λ index less. elim (left.every index less) [ inl before ↦ inl (keeps index before) | inr there ↦ inr there ];
 }
-
--- a list whose last was taken wasn't empty
-pub none_last : {T : Type 0} (xs before : List T) (x : T) → before ≡ xs ++ x ∷ [] → before ≡ [] → ⊥
-none_last [] before x is none = cc (sym is ∙ none)
-none_last (y ∷ ys) before x is none = cc (sym is ∙ none)

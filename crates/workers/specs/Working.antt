@@ -2,14 +2,12 @@
 -- D. J. Abadi, "Rethinking Serializable Multiversion Concurrency Control", PVLDB 8 (2015), section 3; that a pass carries what
 -- a thread knows is this project's own.
 use Rattle.std.specs.Prelude.{◌≡◌, ◌⊎◌, ◌<◌, ◌++◌, ℕ, List, ◌∷◌, All, IsPermutation, Result, Ok, Err}
+use Rattle.std.specs.declared.alloc.AllocError.{AllocError}
 use Rattle.bohm_core_base.specs.Batch.{Batch}
 use Rattle.words.specs.declared.knowledge.Knowledge.{Knowledge}
 use Rattle.filling_base.specs.declared.run.Tried.{Tried}
 use Rattle.filling_base.specs.declared.run.Tried.TheVariants as tried
 use Rattle.filling_base.specs.Tries.{TriedMeans}
-use Rattle.workers.specs.declared.fault.RunFault.{RunFault}
-use Rattle.workers.specs.declared.work.Worked.{Worked}
-use Rattle.workers.specs.declared.work.Worked.TheVariants.{Done, NoMemory, NotStarted}
 use Rattle.words.specs.Passes.{PassState}
 use Rattle.words.specs.Views.{In, KeepsFronts}
 
@@ -26,7 +24,7 @@ pub record GoesOn (pass after : PassState) : Type 0 where
   pub fronts : KeepsFronts pass.view after.view
 
 -- on its way from one state to another the pass asked for the place, and this was the outcome
-pub record IsAnswered (batch : Batch) (pass after : PassState) (answer : Tried) (index : ℕ) : Type 0 where
+pub record IsAnswered (batch : Batch) (pass after : PassState) (answer : Result Tried AllocError) (index : ℕ) : Type 0 where
   pub asks : PassState
   pub finds : PassState
   pub from : GoesOn pass asks
@@ -36,37 +34,23 @@ pub record IsAnswered (batch : Batch) (pass after : PassState) (answer : Tried) 
 -- it asked for the place in vain: another held it, or one that it is referred to, or it isn't placed
 abbrev pub IsMissed : Batch → PassState → PassState → ℕ → Type 0
 IsMissed batch pass after index =
-    ((other : ℕ) × IsAnswered batch pass after (tried.Busy other) index)
-    ⊎ ((partition : ℕ) × IsAnswered batch pass after (tried.NotPlaced partition) index)
+    ((other : ℕ) × IsAnswered batch pass after (Ok (tried.Busy other)) index)
+    ⊎ ((partition : ℕ) × IsAnswered batch pass after (Ok (tried.NotPlaced partition)) index)
 
 -- it asked for each place of the rest: those that weren't found done are left, each of them missed
 pub record HasAsked (batch : Batch) (pass : PassState) (rest : List ℕ) (after : PassState) (left : List ℕ) : Type 0 where
   pub done : List ℕ
   pub each : IsPermutation rest (done ++ left)
-  pub found : All (IsAnswered batch pass after tried.Done) done
+  pub found : All (IsAnswered batch pass after (Ok tried.Done)) done
   pub missed : All (IsMissed batch pass after) left
 
 -- it was stopped: those that weren't found done are left, but for one at most, for which memory ran out
 pub record IsStopped (batch : Batch) (pass : PassState) (rest : List ℕ) (after : PassState) (left : List ℕ) : Type 0 where
   pub done : List ℕ
-  pub found : All (IsAnswered batch pass after tried.Done) done
+  pub found : All (IsAnswered batch pass after (Ok tried.Done)) done
   pub each : IsPermutation rest (done ++ left)
-      ⊎ ((index : ℕ) × IsAnswered batch pass after tried.NoMemory index × IsPermutation rest (done ++ index ∷ left))
+      ⊎ ((index : ℕ) × (error : AllocError) × IsAnswered batch pass after (Err error) index × IsPermutation rest (done ++ index ∷ left))
 
 -- the pass knows each of this many places done
 abbrev pub KnowsAll : ℕ → Knowledge → Type 0
 KnowsAll size view = (index : ℕ) → index < size → In index view.known
-
--- the outcome of two workers together
-abbrev pub worse : Worked → Worked → Worked
-worse NotStarted other = NotStarted
-worse NoMemory NotStarted = NotStarted
-worse NoMemory NoMemory = NoMemory
-worse NoMemory Done = NoMemory
-worse Done other = other
-
--- whether a batch was run
-abbrev pub came_of : Worked → Result (Unit {0}) RunFault
-came_of Done = Ok tt
-came_of NoMemory = Err RunFault.NoMemory
-came_of NotStarted = Err RunFault.Spawn

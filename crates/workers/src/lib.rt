@@ -9,7 +9,6 @@
 //! section 3: each thread goes over the batch and leaves alone what another holds.
 #![tactic(auto)]
 
-mod fault;
 mod gate;
 mod placing;
 mod rounds;
@@ -17,6 +16,5 @@ mod shared;
 mod stop;
 mod work;
 
-pub use fault::RunFault;
 pub use gate::{Gate, NoGate};
-pub use work::{Worked, Workers, run_workers};
+pub use work::{Workers, run_workers};

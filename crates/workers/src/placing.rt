@@ -6,7 +6,7 @@ ghost use Rattle.workers.specs.Placing.{AreDealt, HavePlaced, IsGiven};
 use crate::gate::Gate;
 use crate::shared::Shared;
 use crate::stop::Stopped;
-use filling_base::{Advanced, BatchPlacer, Fills};
+use filling_base::{BatchPlacer, Fills};
 use std::alloc::{AllocError, Global};
 use std::collections::VecDeque;
 
@@ -21,12 +21,12 @@ fn place_one<K: Fills, P: BatchPlacer<K>, G: Gate>(
         → suc count ≤ P.front placer.new) }
 {
     match placer.advance(shared.batch) {
-        Advanced::Next(place) => {
+        Ok(Some(place)) => {
             shared.gate.placed(placer.partition(), place);
             Ok(())
         }
-        Advanced::End => Ok(()),
-        Advanced::NoMemory => Err(shared.stop.tell()),
+        Ok(None) => Ok(()),
+        Err(_) => Err(shared.stop.tell()),
     }
 }
 

@@ -50,11 +50,13 @@ pub(crate) fn go_round<K: Fills, G: Gate>(
         shared.gate.before(place);
         let (next, tried) = shared.batch.try_run(last, index);
         last = next;
-        match tried {
+        let Ok(found) = tried else {
+            return (last, Err(shared.stop.tell()));
+        };
+        match found {
             Tried::Done => shared.gate.after(place),
             Tried::Busy(_) => rest.push_back_reserved(index),
             Tried::NotPlaced(_) => rest.push_back_reserved(index),
-            Tried::NoMemory => return (last, Err(shared.stop.tell())),
         }
     }
     (last, Ok(()))

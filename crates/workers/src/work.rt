@@ -1,47 +1,24 @@
 //! Several workers.
 
-ghost use Rattle.std.specs.Prelude.{◌≡◌, ◌≢◌, ◌<◌, ◌≤◌, ◌+◌, ◌*◌, ◌/◌, ◌^◌, [], All, IfOk, OnErr, OnOk, Ok, length, vec_capacity};
+ghost use Rattle.std.specs.Prelude.{◌≡◌, ◌≢◌, ◌<◌, ◌≤◌, ◌+◌, ◌*◌, ◌/◌, ◌^◌, [], All, IfErr, IfOk, OnOk, Err, Ok, is_ok, length, true, vec_capacity, ◌&&◌};
 ghost use Rattle.words.specs.Passes.{IsPassOf};
 ghost use Rattle.workers.specs.Placing.{HavePlaced, HaveDealt};
-ghost use Rattle.workers.specs.Working.{GoesOn, KnowsAll, came_of, worse};
+ghost use Rattle.workers.specs.Faults.{IsRunFault, run_outcome};
+ghost use Rattle.workers.specs.Working.{GoesOn, KnowsAll};
 
-use crate::fault::RunFault;
 use crate::gate::Gate;
 use crate::placing::{deal, place_all};
 use crate::rounds::{all_places, go_round, look};
 use crate::shared::Shared;
 use crate::stop::{Stop, Stopped};
 use filling_base::{Batch, BatchPlacer, Fills};
+use line_io::EngineFault;
 use model_base::Place;
 use std::alloc::{AllocError, Global};
 use std::sync::Wait;
 use std::thread;
 use std::thread::{Promise, PromisedHandle, Scope, Threads};
 use words::Pass;
-
-/// The outcome of running a batch.
-#[derive(Clone, Copy, Debug)]
-pub enum Worked {
-    /// All its places are done.
-    Done,
-    /// Memory ran out.
-    NoMemory,
-    /// A worker's thread could not be started.
-    NotStarted,
-}
-
-impl Worked {
-    /// Whether the batch was run.
-    pub fn ended(self) -> Result<(), RunFault>
-        ensures { result ≡ came_of self }
-    {
-        match self {
-            Worked::Done => Ok(()),
-            Worked::NoMemory => Err(RunFault::NoMemory),
-            Worked::NotStarted => Err(RunFault::Spawn),
-        }
-    }
-}
 
 /// Where a worker begins: the places are cut into as many parts as there are workers, and it begins with its own.
 fn first_of(worker: usize, workers: usize, size: usize) -> usize
@@ -93,26 +70,24 @@ fn work<K: Fills, P: BatchPlacer<K>, G: Gate, R: Wait>(
     unreachable!()
 }
 
-/// The outcome of what came to its end, or of what was stopped by this fault.
-fn outcome(ended: Result<(), Stopped>, fault: Worked) -> Worked
-    ensures ok { OnOk ended (result ≡ Worked.Done) }
-    ensures err { OnErr ended (result ≡ fault) }
+/// The outcome of two workers: where one was stopped, so are both.
+fn both(one: Result<(), Stopped>, other: Result<(), Stopped>) -> Result<(), Stopped>
+    ensures { is_ok result ≡ (is_ok one && is_ok other) }
 {
-    match ended {
-        Ok(()) => Worked::Done,
-        Err(_stopped) => fault,
+    match one {
+        Ok(()) => other,
+        Err(stopped) => Err(stopped),
     }
 }
 
-/// The outcome of two workers.
-fn both(one: Worked, other: Worked) -> Worked
-    ensures { result ≡ worse one other }
+/// The outcome of a batch whose workers were started and worked so.
+fn outcome(started: Result<(), Stopped>, worked: Result<(), Stopped>) -> Result<(), EngineFault>
+    ensures { result ≡ run_outcome started worked }
 {
-    match (one, other) {
-        (Worked::NotStarted, _) => one,
-        (_, Worked::NotStarted) => other,
-        (Worked::NoMemory, _) => one,
-        (Worked::Done, _) => other,
+    match (started, worked) {
+        (Err(_stopped), _) => Err(EngineFault::Spawn),
+        (Ok(()), Err(_stopped)) => Err(EngineFault::NoMemory),
+        (Ok(()), Ok(())) => Ok(()),
     }
 }
 
@@ -187,21 +162,20 @@ fn join_others<'a, K: Fills, G, R: Threads>(
     rt: &R,
     shared: &Shared<'a, K, G>,
     pass: Pass,
-    worked: Worked,
+    worked: Result<(), Stopped>,
     mut threads: Vec<PromisedHandle<(Pass, Result<(), Stopped>), OfBatch<'a, K>>>,
-) -> (Pass, Worked)
+) -> (Pass, Result<(), Stopped>)
     requires same_table { IsPassOf shared.now pass }
     requires helpers { All (λ thread. thread.promise.0.now ≡ shared.now) threads.items }
     ensures on { GoesOn pass result.0 }
-    ensures done { result.1 ≡ Worked.Done → worked ≡ Worked.Done }
-    ensures alone { threads.entry.items ≡ [] → result.1 ≡ worked }
+    ensures done { is_ok result.1 ≡ true → is_ok worked ≡ true }
 {
     let mut known = pass;
     let mut worst = worked;
     'threads: while let Some(thread) = threads.pop() {
         let (other, theirs) = thread.join(rt);
         known = shared.batch.join(known, other);
-        worst = both(worst, outcome(theirs, Worked::NoMemory));
+        worst = both(worst, theirs);
     }
     (known, worst)
 }
@@ -248,20 +222,21 @@ pub fn run_workers<
     start: Place,
     pass: Pass,
     placers: Vec<P>,
-) -> (Pass, Worked)
+) -> (Pass, Result<(), EngineFault>)
     requires same_table { IsPassOf batch.now pass }
     requires placers { HavePlaced P.is_of P.front batch.now 0 placers.items }
     requires places { start + (K.batch batch.now.key).size < 2 ^ 64 }
     ensures on { GoesOn pass result.0 }
-    ensures all { result.1 ≡ Worked.Done → KnowsAll (K.batch batch.now.key).size result.0.view }
+    ensures all { result.1 ≡ Ok tt → KnowsAll (K.batch batch.now.key).size result.0.view }
+    ensures fault { IfErr result.1 IsRunFault }
     // One worker starts no thread.
-    ensures alone { workers.now.count ≤ 1 → result.1 ≢ Worked.NotStarted }
+    ensures alone { workers.now.count ≤ 1 → result.1 ≢ Err EngineFault.Spawn }
 {
     let rt = workers.rt;
     let alloc = workers.alloc;
     let count = workers.count.max(1);
     let Ok(hands) = hands_of(alloc, batch, placers, count) else {
-        return (pass, Worked::NoMemory);
+        return (pass, Err(EngineFault::NoMemory));
     };
     let stop = Stop::new();
     let shared = &Shared {
@@ -274,25 +249,24 @@ pub fn run_workers<
     thread::scope(
         thread::scope_env(),
         rt,
-        move |scope| -> (Pass, Worked)
+        move |scope| -> (Pass, Result<(), EngineFault>)
             requires { IsPassOf shared.now pass × HaveDealt (λ hand. hand.items) P.is_of P.front shared.now hands.items
                 × (0 < length hands.items) }
             ensures { GoesOn pass result.0
-                × (result.1 ≡ Worked.Done → KnowsAll (K.batch shared.entry.now.key).size result.0.view)
-                × (length hands.items ≤ 1 → result.1 ≢ Worked.NotStarted) }
+                × (result.1 ≡ Ok tt → KnowsAll (K.batch shared.entry.now.key).size result.0.view)
+                × IfErr result.1 IsRunFault × (length hands.items ≤ 1 → result.1 ≢ Err EngineFault.Spawn) }
         {
             let mut hands = hands;
             let Ok(mut threads) = Vec::with_capacity(shared.alloc, hands.len()) else {
-                return (pass, Worked::NoMemory);
+                return (pass, Err(EngineFault::NoMemory));
             };
             let (pass, started) = start_others(rt, scope, shared, pass, &mut hands, &mut threads);
             let Some(placers) = hands.pop() else {
                 unreachable!()
             };
             let (pass, ended) = work(rt, shared, pass, placers, 0);
-            let mine = outcome(ended, Worked::NoMemory);
-            let others = outcome(started, Worked::NotStarted);
-            join_others(rt, shared, pass, both(mine, others), threads)
+            let (pass, worked) = join_others(rt, shared, pass, ended, threads);
+            (pass, outcome(started, worked))
         },
     )
 }

@@ -4,11 +4,15 @@ ghost use Rattle.std.specs.Prelude.{◌≡◌, IfOk, OnOk};
 ghost use Rattle.log_batch.specs.Supplied.{batch_of};
 ghost use Rattle.words.specs.Closing.{HasItsReferences, IsSettledBy};
 ghost use Rattle.filling.specs.BatchProgress.{HasDone, IsDoneTo, NotesEndsOfDone};
+ghost use Rattle.filling.specs.BookState.{IsBookState};
+ghost use Rattle.filling.specs.Finished.{IsFinished};
+ghost use Rattle.filling.specs.Known.{AreKnown};
 
 use crate::completion::batch_progress::{BatchProgress, Completion};
 use crate::completion::copying::{complete, take_ends};
 use crate::completion::finished::Finished;
 use crate::key::RangeKey;
+use grants::Book;
 use own_words::OwnWords;
 use std::alloc::{AllocError, Global};
 use words::Closed;
@@ -40,23 +44,28 @@ fn taken(alloc: Global, key: &RangeKey<'_>, closed: &Closed) -> Result<BatchProg
 }
 
 /// Completes a batch that no worker can reach any more, on this thread: what its words have of each place that is done is kept, and the
-/// others are run, those among them that a worker held when it was dropped. All of it is placed. An error means out of memory.
-pub fn finish<'a>(
+/// others are run, those among them that a worker held when it was dropped. All of it is placed, and the book is the one before it. An
+/// error means out of memory.
+pub fn finish(
     alloc: Global,
-    key: RangeKey<'a>,
+    book: &Book,
+    key: &RangeKey<'_>,
     closed: &Closed,
-) -> Result<Finished<'a>, AllocError>
-    requires settled { IsSettledBy (batch_of key.batch) key.slots closed.now }
-    requires references { HasItsReferences (batch_of key.batch) closed.now }
-    ensures { IfOk result (λ done. done
-        ≡ record { log = key.entry.batch.log; first = key.entry.batch.first; size = key.entry.batch.size }) }
+) -> Result<Finished, AllocError>
+    requires known { AreKnown key.now.batch.log.statements }
+    requires stands { IsBookState key.now.batch.log.statements key.now.batch.first book.now }
+    requires settled { IsSettledBy (batch_of key.now.batch) key.now.slots closed.now }
+    requires references { HasItsReferences (batch_of key.now.batch) closed.now }
+    ensures { IfOk result (λ done. IsFinished key.now.batch.log.statements key.now.batch.first key.now.batch.size
+        book.now done) }
 {
-    let mut progress = taken(alloc, &key, closed)?;
+    let mut progress = taken(alloc, key, closed)?;
+    let batch = key.batch();
     let completion = Completion {
         alloc,
-        batch: key.batch(),
+        batch,
         closed,
     };
     complete_all(&completion, &mut progress)?;
-    Finished::of(alloc, key.into_batch(), progress)
+    Finished::of(alloc, book, batch, &progress)
 }

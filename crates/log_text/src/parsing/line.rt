@@ -106,30 +106,8 @@ pub fn read_into<'a>(
     }
 }
 
-/// The statement that a line of a version, without its end of line, reads as, or the line's fault. Its accesses and steps take the room
-/// that is lent, and memory only where it isn't enough. `NoMemory` comes only where the allocator refused.
-pub fn read_line<'a>(
-    alloc: Global,
-    version: Version,
-    line: &'a [u8],
-    room: &mut LineBuffers<'a>,
-) -> Result<RawStatement<'a>, LineFault>
-    // What is returned is what the line reads as.
-    ensures read { IfOk result (λ s. ReadsIn version line.now s) }
-    // A line that reads as a statement is returned as it, unless memory runs out.
-    ensures only { (s : Sentence) → ReadsIn version line.now s → MatchResult result (λ found. found ≡ s) (λ f. f ≡ LineFault.NoMemory) }
-    // Only a line with no fault is read.
-    ensures sound { OnOk result (fault_in version line.now ≡ None) }
-    // Any other fault is the first of the line's.
-    ensures fault { IfErr result (λ f. f ≢ LineFault.NoMemory → fault_in version line.now ≡ Some f) }
-    // A line that is too long or empty, or has a byte that isn't printable, is returned as such, and never as out of memory.
-    ensures whole { (f : LineFault) → whole_fault line.now ≡ Some f → result ≡ Err f }
-{
-    read_into(version, line, room)?;
-    Ok(room.take(alloc))
-}
-
-/// The statement that a line of a version reads as, or the line's fault, as `read_line` with room for nothing yet.
+/// The statement that a line of a version, without its end of line, reads as, or the line's fault. `NoMemory` comes only where the
+/// allocator refused.
 pub fn parse_line_in<'a>(
     alloc: Global,
     version: Version,
@@ -146,7 +124,9 @@ pub fn parse_line_in<'a>(
     // A line that is too long or empty, or has a byte that isn't printable, is returned as such, and never as out of memory.
     ensures whole { (f : LineFault) → whole_fault line.now ≡ Some f → result ≡ Err f }
 {
-    read_line(alloc, version, line, &mut LineBuffers::new(alloc))
+    let mut buffers = LineBuffers::new(alloc);
+    read_into(version, line, &mut buffers)?;
+    Ok(buffers.into_statement())
 }
 
 /// The statement that a line of version 1 reads as, or the line's fault, as `parse_line_in`.

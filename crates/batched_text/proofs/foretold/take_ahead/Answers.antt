@@ -1,5 +1,6 @@
 use Rattle.read_ahead.specs.Ahead.{line_from}
 use Rattle.report.specs.Report.{faulty}
+use Rattle.batched_text.specs.Batching.{next_line}
 use Rattle.batched_text.specs.Foretold.{log_names}
 use Rattle.batched_text.proofs.ForetoldLines.{faulty_at, reads_later}
 use Rattle.batched_text.proofs.foretold.take_ahead.Goals as goal
@@ -9,7 +10,7 @@ returns-in_ok-take_faulty-in-Faulty-clause-ok c = record {
   line = line_from c.args.bytes.now c.args.ahead.now.from;
   at = c.requires.ahead.ahead.at;
   reading = faulty c.in-Faulty.fault;
-  reads = reads_later c.args.batching.now.number (log_names c.args.batching.now).version (line_from c.args.bytes.now c.args.ahead.now.from) (faulty c.in-Faulty.fault) c.requires.begun
-      (faulty_at (log_names c.args.batching.now) c.args.bytes.now c.args.ahead.now c.in-Faulty.fault c.requires.ahead c.in-Faulty.is);
+  reads = reads_later (next_line c.args.run.now) (log_names c.args.run.now).version (line_from c.args.bytes.now c.args.ahead.now.from) (faulty c.in-Faulty.fault) c.requires.begun
+      (faulty_at (log_names c.args.run.now) c.args.bytes.now c.args.ahead.now c.in-Faulty.fault c.requires.ahead c.in-Faulty.is);
   takes = c.in_ok-take_faulty-in-Faulty.ensures.ok;
 }

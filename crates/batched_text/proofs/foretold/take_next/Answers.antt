@@ -3,7 +3,7 @@ use Rattle.batched_text.proofs.foretold.take_next.Goals as goal
 
 pub returns-clause-ok : goal.returns-clause-ok
 returns-clause-ok c =
-    let took = c.in_ok-take_line.ensures.ok in
+    let took = c.in_ok-take.ensures.ok in
     let cut = c.in-Some.ensures in
     record {
       line = c.in-Some.line.now;

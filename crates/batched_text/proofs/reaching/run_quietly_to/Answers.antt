@@ -1,6 +1,6 @@
 use Rattle.std.proofs.Common.{◌≤◌, length, refl}
 use Rattle.model_base.specs.declared.limits.TheConstants.{MOST_PLACES}
-use Rattle.batched_text.proofs.Faults.{read_on}
+use Rattle.batched_text.proofs.Faults.{read_on, told_on}
 use Rattle.batched_text.proofs.Fronts.{front_ended, up_to}
 use Rattle.batched_text.proofs.reaching.run_quietly_to.Goals as goal
 
@@ -12,3 +12,7 @@ returns-clause-log g c =
 pub returns-in_err-run_until-clause-other : goal.returns-in_err-run_until-clause-other
 returns-in_err-run_until-clause-other g c =
     λ other. c.in_err-run_until.ensures.other (λ is. other (read_on c.in_err-run_until.field-0.0 c.from_residual.result c.from_residual.ensures.1 _ refl is))
+
+pub returns-in_err-run_until-clause-fault : goal.returns-in_err-run_until-clause-fault
+returns-in_err-run_until-clause-fault g c =
+    rw (told_on c.in_err-run_until.field-0.0 c.from_residual.result c.from_residual.ensures.1) c.in_err-run_until.ensures.fault

@@ -19,7 +19,7 @@ pub lines-preserved : goal.lines-preserved
 lines-preserved g c =
     let given = rw c.if-not-branch.false at c.in_ok-next_line.ensures.given in
     let line = rw c.if-not-branch.false at c.in_ok-next_line.ensures.line in
-    let took = c.in_ok-take_quietly.ensures in
+    let took = c.in_ok-take_quietly.ensures.ok in
     let count : c.len.result ≡ length c.lines.engine.log.statements = c.len.ensures.count ∙ ap length (ap (λ log. log.statements) c.log.ensures.value) in
     record {
       taken = λ input end less so. front_step false input _ _ end _ _ (found_line c.next_line.new.self) (c.lines.invariant.taken input end less so) line

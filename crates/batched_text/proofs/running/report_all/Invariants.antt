@@ -10,12 +10,13 @@ use Rattle.batched_text.proofs.running.report_all.Given as goal
 
 abbrev pub invariant-turns : goal.invariant-turns
 invariant-turns g l = record {
-  names : Begins l.lookahead.names (log_names l.batching);
-  nothing : l.batching.pending.items ≡ [];
-  none : NoneWait l.runner.plan.cut l.batching.waiting.items;
-  ready : IsBatchReady l.runner.plan l.batching (length (ahead l.lines)) l.reader.given;
+  may_deal : g.D.Dealer.may_deal l.dealer;
+  names : Begins (g.D.Dealer.names l.dealer) (log_names l.run);
+  nothing : l.run.pending.items ≡ [];
+  none : NoneWait l.runner.plan.cut l.run.waiting.items;
+  ready : IsBatchReady l.runner.plan l.run (length (ahead l.lines)) l.reader.given;
   batched : BatchedUpTo (g.R.Read.remaining l.initial.reader.inner) (prepend_known (ahead l.lines) (g.R.Read.remaining l.reader.inner))
-      (g.W.Write.contents l.initial.writer.inner) (g.W.Write.contents l.writer.inner) l.batching;
+      (g.W.Write.contents l.initial.writer.inner) (g.W.Write.contents l.writer.inner) l.run;
   read_errors : l.reader.errors ≡ l.initial.reader.errors;
   write_errors : l.writer.errors ≡ l.initial.writer.errors;
   flushes : l.writer.flushes ≡ l.initial.writer.flushes;

@@ -21,7 +21,7 @@ pub returns-then-not-branch-clause-turn : goal.returns-then-not-branch-clause-tu
 returns-then-not-branch-clause-turn g c = λ held. record {
   taken = search rules;
   room = λ _. c.requires.ready.room;
-  ended = λ _ input out so. gathers_end input _ _ out _ (ahead c.args.lines.now) c.args.batching.now so c.in_ok-next_line.ensures.left
+  ended = λ _ input out so. gathers_end input _ _ out _ (ahead c.args.lines.now) c.args.run.now so c.in_ok-next_line.ensures.left
       (rw c.if-not-branch.true at c.in_ok-next_line.ensures.line);
   begun = λ input out so. begun_batched total_in input _ out _ _ _ _ _ _ so;
   begun_read = λ input out so. read_begun _ _ _ _ _ _ _ total_in input _ _ (ahead c.args.lines.now) so c.in_ok-next_line.ensures.left;
@@ -32,8 +32,8 @@ returns-in_err-deal-clause-turn g c = λ held. record {
   taken = search rules;
   room = search rules;
   ended = search rules;
-  begun = λ input out so. rw c.in_err-deal.ensures.err.1 (begun_batched total_in input _ out _ _ _ _ _ _ so);
-  begun_read = λ input out so. rw c.in_err-deal.ensures.err.1
+  begun = λ input out so. rw c.in_err-deal.ensures.err.pending (begun_batched total_in input _ out _ _ _ _ _ _ so);
+  begun_read = λ input out so. rw c.in_err-deal.ensures.err.pending
       (read_begun _ _ _ _ _ _ _ total_in input _ _ (ahead c.args.lines.now) so c.in_ok-next_line.ensures.left);
 }
 
@@ -50,35 +50,35 @@ returns-clause-turn g c = λ held.
           bounded = λ _. given.1;
           numbered = omega (arith, given.0, dealt.1.1.number, c.requires.ready.numbered);
         };
-        begun = omega (arith, dealt.1.1.number, before.few);
+        begun = omega (arith, dealt.1.1.number);
         forward = given.0;
         most = given.1;
-        batched = λ input out so. batched_step input _ _ out _ (found_line c.next_line.new.self) dealt.0 c.args.batching.now c.deal.new.batching so
-            (rw c.if-not-branch.false at c.in_ok-next_line.ensures.line) dealt.1.0 dealt.1.1 (omega (arith, before.counted))
-            (record { whole = room.whole; within = omega (arith, room.counted) });
+        batched = λ input out so. batched_step input _ _ out _ (found_line c.next_line.new.self) dealt.0 c.args.run.now c.deal.new.self so
+            (rw c.if-not-branch.false at c.in_ok-next_line.ensures.line) dealt.1.0 dealt.1.1 (omega (arith, before.steady.counted))
+            (record { whole = room.whole; within = omega (arith, room.steady.counted) });
       };
       room = search rules;
       ended = search rules;
       begun = λ input out so. begun_batched total_in input _ out _ _ _ _ _ _
-          (batched_step input _ _ out _ (found_line c.next_line.new.self) dealt.0 c.args.batching.now c.deal.new.batching so
-          (rw c.if-not-branch.false at c.in_ok-next_line.ensures.line) dealt.1.0 dealt.1.1 (omega (arith, before.counted))
-          (record { whole = room.whole; within = omega (arith, room.counted) }));
+          (batched_step input _ _ out _ (found_line c.next_line.new.self) dealt.0 c.args.run.now c.deal.new.self so
+          (rw c.if-not-branch.false at c.in_ok-next_line.ensures.line) dealt.1.0 dealt.1.1 (omega (arith, before.steady.counted))
+          (record { whole = room.whole; within = omega (arith, room.steady.counted) }));
       begun_read = λ input out so. read_begun _ _ _ _ _ _ _ total_in input _ _ (ahead c.next_line.new.self)
-          (batched_step input _ _ out _ (found_line c.next_line.new.self) dealt.0 c.args.batching.now c.deal.new.batching so
-          (rw c.if-not-branch.false at c.in_ok-next_line.ensures.line) dealt.1.0 dealt.1.1 (omega (arith, before.counted))
-          (record { whole = room.whole; within = omega (arith, room.counted) })) (read_none _);
+          (batched_step input _ _ out _ (found_line c.next_line.new.self) dealt.0 c.args.run.now c.deal.new.self so
+          (rw c.if-not-branch.false at c.in_ok-next_line.ensures.line) dealt.1.0 dealt.1.1 (omega (arith, before.steady.counted))
+          (record { whole = room.whole; within = omega (arith, room.steady.counted) })) (read_none _);
     }
 
 pub returns-clause-begins : goal.returns-clause-begins
 returns-clause-begins g c =
     let dealt = c.in_ok-deal.ensures.dealt in
-    begins_dealt dealt.0 c.args.batching.now c.deal.new.batching dealt.1.1
+    begins_dealt dealt.0 c.args.run.now c.deal.new.self dealt.1.1
 
 pub returns-in_err-deal-clause-reads : goal.returns-in_err-deal-clause-reads
 returns-in_err-deal-clause-reads g c =
     c.in_ok-next_line.ensures.other (λ is. cc is)
-    ∙ reads_told _ c.in_err-deal.field-0.0 c.from_residual-in_err-deal.result c.args.reader.now.errors c.from_residual-in_err-deal.ensures.1 c.in_err-deal.ensures.err.0
+    ∙ reads_told _ c.in_err-deal.field-0.0 c.from_residual-in_err-deal.result c.args.reader.now.errors c.from_residual-in_err-deal.ensures.1 c.in_err-deal.ensures.err.stops
 
 pub returns-in_err-deal-clause-err : goal.returns-in_err-deal-clause-err
 returns-in_err-deal-clause-err g c =
-    writes_never c.in_err-deal.field-0.0 c.from_residual-in_err-deal.result c.from_residual-in_err-deal.ensures.1 c.in_err-deal.ensures.err.0
+    writes_never c.in_err-deal.field-0.0 c.from_residual-in_err-deal.result c.from_residual-in_err-deal.ensures.1 c.in_err-deal.ensures.err.stops

@@ -9,34 +9,34 @@ use Rattle.batched_text.proofs.running.run_batches.Goals as goal
 pub returns-in_err-ended-clause-report : goal.returns-in_err-ended-clause-report
 returns-in_err-ended-clause-report g c = (
   fault_reports _ _ _ _ c.from_residual.result c.from_residual.ensures.1
-      (front_written _ _ _ _ c.report_all-ended.new.batching.pending.items c.report_all-ended.ensures.begun (rw c.deref.ensures.value at c.write_out-written.ensures.front)),
-  read_written _ _ _ _ _ c.report_all-ended.new.batching.pending.items c.report_all-ended.ensures.begun_read (rw c.deref.ensures.value at c.write_out-written.ensures.front),
+      (front_written _ _ _ _ c.report_all-ended.new.run.pending.items c.report_all-ended.ensures.begun (rw c.deref.ensures.value at c.write_out-written.ensures.front)),
+  read_written _ _ _ _ _ c.report_all-ended.new.run.pending.items c.report_all-ended.ensures.begun_read (rw c.deref.ensures.value at c.write_out-written.ensures.front),
 )
 
 pub returns-in_err-written-clause-report : goal.returns-in_err-written-clause-report
 returns-in_err-written-clause-report g c = (
   fault_reports _ _ _ _ c.from_residual-in_err-written.result c.from_residual-in_err-written.ensures.1
-      (front_written _ _ _ _ c.report_all-ended.new.batching.pending.items c.report_all-ended.ensures.begun (rw c.deref.ensures.value at c.write_out-written.ensures.front)),
-  read_written _ _ _ _ _ c.report_all-ended.new.batching.pending.items c.report_all-ended.ensures.begun_read (rw c.deref.ensures.value at c.write_out-written.ensures.front),
+      (front_written _ _ _ _ c.report_all-ended.new.run.pending.items c.report_all-ended.ensures.begun (rw c.deref.ensures.value at c.write_out-written.ensures.front)),
+  read_written _ _ _ _ _ c.report_all-ended.new.run.pending.items c.report_all-ended.ensures.begun_read (rw c.deref.ensures.value at c.write_out-written.ensures.front),
 )
 
 pub returns-in_err-end_report-clause-report : goal.returns-in_err-end_report-clause-report
 returns-in_err-end_report-clause-report g c = (
   fault_reports _ _ _ _ c.from_residual-in_err-end_report.result c.from_residual-in_err-end_report.ensures.1
-      (front_kept_written _ _ _ _ _ c.report_all-ended.new.batching.pending.items c.report_all-ended.ensures.begun (rw c.deref.ensures.value at c.write_out-written.ensures.front)
+      (front_kept_written _ _ _ _ _ c.report_all-ended.new.run.pending.items c.report_all-ended.ensures.begun (rw c.deref.ensures.value at c.write_out-written.ensures.front)
       c.end_report.ensures.bytes),
-  read_kept_written _ _ _ _ _ _ c.report_all-ended.new.batching.pending.items c.report_all-ended.ensures.begun_read
+  read_kept_written _ _ _ _ _ _ c.report_all-ended.new.run.pending.items c.report_all-ended.ensures.begun_read
       (rw c.deref.ensures.value at c.write_out-written.ensures.front) c.end_report.ensures.bytes,
 )
 
 pub returns-clause-report : goal.returns-clause-report
 returns-clause-report g c = (
   (
-    all_written _ _ _ _ _ c.report_all-ended.new.batching.pending.items c.in_ok-ended.ensures.done (rw c.deref.ensures.value at c.in_ok-written.ensures.ok) c.end_report.ensures.bytes,
-    front_kept_written _ _ _ _ _ c.report_all-ended.new.batching.pending.items c.report_all-ended.ensures.begun (rw c.deref.ensures.value at c.write_out-written.ensures.front)
+    all_written _ _ _ _ _ c.report_all-ended.new.run.pending.items c.in_ok-ended.ensures.done (rw c.deref.ensures.value at c.in_ok-written.ensures.ok) c.end_report.ensures.bytes,
+    front_kept_written _ _ _ _ _ c.report_all-ended.new.run.pending.items c.report_all-ended.ensures.begun (rw c.deref.ensures.value at c.write_out-written.ensures.front)
         c.end_report.ensures.bytes,
   ),
-  read_kept_written _ _ _ _ _ _ c.report_all-ended.new.batching.pending.items c.report_all-ended.ensures.begun_read
+  read_kept_written _ _ _ _ _ _ c.report_all-ended.new.run.pending.items c.report_all-ended.ensures.begun_read
       (rw c.deref.ensures.value at c.write_out-written.ensures.front) c.end_report.ensures.bytes,
 )
 

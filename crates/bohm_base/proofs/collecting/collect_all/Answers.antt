@@ -1,8 +1,7 @@
 use Rattle.std.proofs.Common.{ℕ, ap, refl, ◌∙◌, rules}
 use Rattle.std.specs.Prelude.{◌==◌}
 use Rattle.line_io.specs.Ahead.{found_line}
-use Rattle.bohm_base.specs.Faults.{read_errors}
-use Rattle.bohm_base.proofs.LinesRead.{collect_start, collect_step, collect_end, fault_told}
+use Rattle.bohm_base.proofs.LinesRead.{collect_start, collect_step, collect_end}
 use Rattle.bohm_base.proofs.collecting.collect_all.Goals as goal
 
 pub lines-init : goal.lines-init
@@ -24,8 +23,3 @@ lines-preserved g c =
 
 pub returns-clause-whole : goal.returns-clause-whole
 returns-clause-whole g c = collect_end _ _ _ _ c.lines.invariant.collected (rw c.if-branch.false at c.in_ok-next_line.ensures.line)
-
-pub returns-in_err-next_line-clause-reads : goal.returns-in_err-next_line-clause-reads
-returns-in_err-next_line-clause-reads g c =
-    fault_told c.in_err-next_line.field-0.0 _ _ _ _ refl c.from_residual.ensures.1 c.in_err-next_line.ensures.read c.in_err-next_line.ensures.other
-    ∙ ap (λ (n : ℕ). read_errors c.from_residual.result n) c.lines.invariant.read_errors

@@ -1,5 +1,5 @@
 use Rattle.line_io.proofs.Written.{appends_none, front_kept}
-use Rattle.bohm_base.proofs.Beginnings.{front_written, whole_written}
+use Rattle.bohm_base.proofs.Beginnings.{begun_written, whole_written}
 use Rattle.bohm_base.specs.Collecting.{log_text}
 use Rattle.bohm_base.proofs.Runnable.{runnable_log}
 use Rattle.bohm_base.proofs.serial_run.run_log.Goals as goal
@@ -12,15 +12,15 @@ returns-in_err-outcomes-clause-begun g c = (0, appends_none _ (log_text c.args.c
 
 pub returns-in_err-ended-clause-begun : goal.returns-in_err-ended-clause-begun
 returns-in_err-ended-clause-begun g c =
-    front_written _ _ _ _ c.report_lines-ended.new.pending.items c.report_lines-ended.ensures.begun (rw c.as_slice.ensures.value at c.write_out-written.ensures.front)
+    begun_written _ _ _ _ c.report_lines-ended.new.pending.items c.report_lines-ended.ensures.begun (rw c.as_slice.ensures.value at c.write_out-written.ensures.front)
 
 pub returns-in_err-written-clause-begun : goal.returns-in_err-written-clause-begun
 returns-in_err-written-clause-begun g c =
-    front_written _ _ _ _ c.report_lines-ended.new.pending.items c.report_lines-ended.ensures.begun (rw c.as_slice.ensures.value at c.write_out-written.ensures.front)
+    begun_written _ _ _ _ c.report_lines-ended.new.pending.items c.report_lines-ended.ensures.begun (rw c.as_slice.ensures.value at c.write_out-written.ensures.front)
 
 pub returns-in_err-flush-clause-begun : goal.returns-in_err-flush-clause-begun
 returns-in_err-flush-clause-begun g c =
-    front_written _ _ _ _ c.report_lines-ended.new.pending.items c.report_lines-ended.ensures.begun
+    begun_written _ _ _ _ c.report_lines-ended.new.pending.items c.report_lines-ended.ensures.begun
     (front_kept _ _ _ c.report_lines-ended.new.pending.items (rw c.as_slice.ensures.value at c.write_out-written.ensures.front) c.flush.ensures.bytes)
 
 pub returns-clause-done : goal.returns-clause-done
@@ -29,5 +29,5 @@ returns-clause-done g c =
 
 pub returns-clause-begun : goal.returns-clause-begun
 returns-clause-begun g c =
-    front_written _ _ _ _ c.report_lines-ended.new.pending.items c.report_lines-ended.ensures.begun
+    begun_written _ _ _ _ c.report_lines-ended.new.pending.items c.report_lines-ended.ensures.begun
     (front_kept _ _ _ c.report_lines-ended.new.pending.items (rw c.as_slice.ensures.value at c.write_out-written.ensures.front) c.flush.ensures.bytes)

@@ -1,7 +1,7 @@
 use Rattle.std.proofs.Common.{◌≡◌, ℕ, Err, List, Option, ap, subst}
 use Rattle.std.specs.Prelude.{IfSome}
+use Rattle.audit_text.specs.declared.fault.WorkFault.{WorkFault}
 use Rattle.command_line.specs.Running.{LacksPlace}
-use Rattle.command_line.specs.declared.work.WorkFault.{WorkFault}
 use Rattle.command_line.proofs.Told.{lacks_as}
 use Rattle.command_line.proofs.running.do_command.Goals as goal
 

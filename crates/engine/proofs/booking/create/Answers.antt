@@ -1,4 +1,4 @@
-use Rattle.engine.proofs.Stepping.{create_room, created}
+use Rattle.filling.proofs.Stepping.{create_room, created}
 use Rattle.engine.proofs.booking.create.Goals as goal
 
 pub add_table-requires-clause-room : goal.add_table-requires-clause-room

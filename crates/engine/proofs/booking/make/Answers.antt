@@ -10,8 +10,8 @@ use Rattle.model_base.specs.Outcomes.{deed_done, deeds_before, owners, world_bef
 use Rattle.model_base.specs.Privileges.{place_of}
 use Rattle.grants_base.specs.Book.{Entries, cut_book}
 use Rattle.evaluation.proofs.OnlyRevocation.{only_revocation}
-use Rattle.engine.proofs.Cutting.{cut_ended, cut_granted}
-use Rattle.engine.proofs.Making.{below_here, first_granting, is_held, made_none, made_revoked, making_first, making_next, may_next, on_table}
+use Rattle.filling.proofs.Cutting.{cut_ended, cut_granted}
+use Rattle.filling.proofs.Making.{below_here, first_granting, is_held, made_none, made_revoked, making_first, making_next, may_next, on_table}
 use Rattle.engine.proofs.booking.make.Goals as goal
 
 pub returns-in-None-clause-ok : goal.returns-in-None-clause-ok

@@ -3,8 +3,8 @@ use Rattle.model_base.specs.declared.deed.Deed.{Deed}
 use Rattle.model_base.specs.declared.deed.Deed.TheVariants.{Granting}
 use Rattle.grants_base.specs.Book.{cut_book}
 use Rattle.engine.specs.RunState.{IsMaking}
-use Rattle.engine.proofs.Cutting.{cut_granted}
-use Rattle.engine.proofs.Making.{here, is_held, making_next, may_next, on_table}
+use Rattle.filling.proofs.Cutting.{cut_granted}
+use Rattle.filling.proofs.Making.{here, is_held, making_next, may_next, on_table}
 use Rattle.engine.proofs.booking.make_grants.Goals as goal
 
 pub grant-requires-clause-later : goal.grant-requires-clause-later

@@ -1,4 +1,4 @@
-use Rattle.engine.proofs.Executed.{done_of, new_placed}
+use Rattle.engine.proofs.Executed.{new_placed}
 use Rattle.engine.proofs.executing.execute.Goals as goal
 
 pub run_workers-pass-requires-clause-placers : goal.run_workers-pass-requires-clause-placers
@@ -6,4 +6,4 @@ run_workers-pass-requires-clause-placers g c κs within =
     new_placed c.in_ok-words.words c.args.batch.partitions c.in_ok-words.placers.items c.in_ok-words.ensures.placers
 
 pub settled-pass-requires-clause-all : goal.settled-pass-requires-clause-all
-settled-pass-requires-clause-all g c = c.run_workers-pass.ensures.all (done_of c.run_workers-pass.result.1 c.in_ok-ended.field-0 c.in_ok-ended.ensures)
+settled-pass-requires-clause-all g c = c.run_workers-pass.ensures.all c.in_ok-worked.was

@@ -8,9 +8,9 @@ use Rattle.model_base.proofs.Made.{deeds_of-one, deeds_of-placed}
 use Rattle.body.specs.declared.ending.BodyEnd.{BodyEnd}
 use Rattle.body.specs.Shown.{WindowShows}
 use Rattle.engine.specs.RunState.{AreOwnDeeds, IsBookState}
-use Rattle.engine.proofs.Making.{shows-past}
+use Rattle.filling.proofs.Making.{shows-past}
 use Rattle.engine.proofs.Running.{Ends, completed-deeds, covers-needs, denied-leads, ended-leads, few_accesses, lacks-none, same-booked}
-use Rattle.engine.proofs.Stepping.{Leads, created-leads, make_owners, make_table}
+use Rattle.filling.proofs.Stepping.{Leads, created-leads, make_owners, make_table}
 use Rattle.engine.proofs.in_order.judge.Given.{Over}
 use Rattle.engine.proofs.in_order.judge.Goals as goal
 use Rattle.engine.proofs.in_order.judge.Goals.{After-run, In-Denied}

@@ -6,7 +6,7 @@ use Rattle.chains.specs.Store.{of_key, versions_at}
 use Rattle.model_base.specs.declared.outcome.Outcome.{Outcome}
 use Rattle.engine.specs.RunState.{IsRunState}
 use Rattle.engine.specs.Running.{AddsFrom}
-use Rattle.filling.specs.FinishedRange.{AreOutcomes}
+use Rattle.filling.specs.Finished.{AreOutcomes}
 use Rattle.engine.proofs.in_order.run_in_order.Given as goal
 
 -- the first places are run

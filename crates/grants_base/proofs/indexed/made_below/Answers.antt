@@ -2,7 +2,7 @@ use Rattle.std.proofs.Common.{◌<◌, ◌≡◌, ◌-◌, get_or, length, ap, s
 use Rattle.std.proofs.lemmas.Bool.Decides.{nat_tests}
 use Rattle.std.proofs.lemmas.Option.{get_or_from_slice_get, slice_get_within}
 use Rattle.model_base.specs.declared.deed.Record.{Record}
-use Rattle.grants_base.proofs.EndingLaws.{none_there}
+use Rattle.grants_base.proofs.Indexing.{none_there}
 use Rattle.grants_base.proofs.Lookups.{records_rise}
 use Rattle.grants_base.proofs.indexed.made_below.Goals as goal
 

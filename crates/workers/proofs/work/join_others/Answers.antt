@@ -1,8 +1,10 @@
 use Rattle.std.proofs.Common.{◌≡◌, sym, subst, ◌∙◌}
+use Rattle.std.specs.Prelude.{is_ok}
+use Rattle.std.proofs.lemmas.Bool.{and_parts}
 use Rattle.std.proofs.lemmas.List.Elements.{All-pop}
 use Rattle.words.specs.Passes.{PassState, joined_pass}
 use Rattle.workers.specs.Working.{GoesOn}
-use Rattle.workers.proofs.Going.{joined_on, none_last, on_and_on, worse_done}
+use Rattle.workers.proofs.Going.{joined_on, on_and_on}
 use Rattle.workers.proofs.work.join_others.Goals as goal
 
 pub threads-preserved : goal.threads-preserved
@@ -13,7 +15,6 @@ threads-preserved g c =
     record {
       on = subst (λ (after : PassState). GoesOn c.args.pass after) (sym c.join-known.ensures)
           (on_and_on c.args.pass c.threads.known (joined_pass c.threads.known c.join-other.result.0) invariant.on (joined_on c.threads.known c.join-other.result.0));
-      done = λ done. invariant.done (worse_done c.threads.worst c.outcome.result (sym c.both-worst.ensures ∙ done));
+      done = λ done. invariant.done (and_parts (is_ok c.threads.worst) (is_ok c.join-other.result.1) (sym c.both-worst.ensures ∙ done)).0;
       helpers = fewer.0;
-      alone = λ none. absurd (none_last c.pop.new.self.items c.threads.threads.items c.in-Some.thread c.in-Some.ensures.items (invariant.alone none).0);
     }

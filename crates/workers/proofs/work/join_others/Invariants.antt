@@ -1,15 +1,13 @@
-use Rattle.std.proofs.Common.{◌≡◌, [], length}
-use Rattle.std.specs.Prelude.{All}
+use Rattle.std.proofs.Common.{◌≡◌, true, length}
+use Rattle.std.specs.Prelude.{All, is_ok}
 use Rattle.workers.specs.Working.{GoesOn}
-use Rattle.workers.specs.declared.work.Worked.TheVariants.{Done}
 use Rattle.workers.proofs.work.join_others.Given as goal
 
 abbrev pub invariant-threads : goal.invariant-threads
 invariant-threads g l = record {
   on : GoesOn l.fn.pass l.known;
-  done : l.worst ≡ Done → l.fn.worked ≡ Done;
+  done : is_ok l.worst ≡ true → is_ok l.fn.worked ≡ true;
   helpers : All (λ thread. thread.promise.0.now ≡ l.shared) l.threads.items;
-  alone : l.fn.threads.items ≡ [] → (l.threads.items ≡ []) × (l.worst ≡ l.fn.worked);
 }
 
 abbrev pub decreases-threads : goal.decreases-threads

@@ -8,7 +8,7 @@ invariant-lines l = record {
   len : length l.out ≡ length l.initial.out;
   feeds : Feeds l.input l.out l.fn.self l.self l.step.used l.step.made;
   settled : IsGivenOut l.self l.out l.step.made;
-  keep : l.self.order.keep ≡ l.fn.self.order.keep;
+  keep : l.self.keep ≡ l.fn.self.keep;
 }
 
 abbrev pub decreases-lines : goal.decreases-lines

@@ -3,5 +3,4 @@ use Rattle.fed_run.proofs.FedTexts.{stands_start}
 use Rattle.fed_run.proofs.fed.FedRun.seeded.Goals as goal
 
 pub returns-clause-stands : goal.returns-clause-stands
-returns-clause-stands c =
-    stands_start _ c.new.ensures.items c.new-2.ensures.items c.seeded.ensures.log c.seeded.ensures.whole c.seeded.ensures.reported c.seeded.ensures.waiting refl
+returns-clause-stands c = stands_start _ c.new.ensures.items refl c.seeded.ensures

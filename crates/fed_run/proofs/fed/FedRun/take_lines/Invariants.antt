@@ -6,11 +6,11 @@ use Rattle.fed_run.proofs.fed.FedRun.take_lines.Given as goal
 abbrev pub invariant-lines : goal.invariant-lines
 invariant-lines l = record {
   takes : TakesBytes l.input l.initial.self l.self l.initial.step.used l.step.used;
-  still : l.step.used ≡ l.initial.step.used → l.self.order.waiting ≡ l.initial.self.order.waiting;
+  still : l.step.used ≡ l.initial.step.used → l.self.run.waiting.items ≡ l.initial.self.run.waiting.items;
   made : l.step.made ≡ l.initial.step.made;
   unsent : unsent l.self ≡ unsent l.initial.self;
   ended : l.self.is_ended ≡ l.initial.self.is_ended;
-  keep : l.self.order.keep ≡ l.initial.self.order.keep;
+  keep : l.self.keep ≡ l.initial.self.keep;
 }
 
 abbrev pub decreases-lines : goal.decreases-lines

@@ -7,9 +7,9 @@ use Rattle.filling.proofs.completion.running.finish.Goals as goal
 
 pub complete_all-requires-clause-closed : goal.complete_all-requires-clause-closed
 complete_all-requires-clause-closed c =
-    subst (λ (ranged : LogRange). HasDone (batch_of ranged) c.args.closed.now) (sym c.batch.ensures)
-    (settled-done (batch_of c.args.key.batch) c.args.key.slots c.args.closed.now c.requires.settled)
+    subst (λ (ranged : LogRange). HasDone (batch_of ranged) c.args.closed.now) (sym c.batch-batch.ensures)
+    (settled-done (batch_of c.args.key.now.batch) c.args.key.now.slots c.args.closed.now c.requires.settled)
 
 pub complete_all-requires-clause-references : goal.complete_all-requires-clause-references
 complete_all-requires-clause-references c =
-    subst (λ (ranged : LogRange). HasItsReferences (batch_of ranged) c.args.closed.now) (sym c.batch.ensures) c.requires.references
+    subst (λ (ranged : LogRange). HasItsReferences (batch_of ranged) c.args.closed.now) (sym c.batch-batch.ensures) c.requires.references

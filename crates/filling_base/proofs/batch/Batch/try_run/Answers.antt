@@ -1,5 +1,6 @@
-use Rattle.std.proofs.Common.{◌≡◌, ◌<◌, [], length, refl, sym, ap, ◌∙◌, subst, inl, arith}
+use Rattle.std.proofs.Common.{◌≡◌, ◌<◌, [], length, sym, ap, ◌∙◌, subst, arith}
 use Rattle.std.proofs.lemmas.Grind.{common_steps}
+use Rattle.std.specs.Prelude.{Ok}
 use Rattle.bohm_core_base.specs.Batch.{Batch, reference_words}
 use Rattle.words.specs.Passes.{PassState}
 use Rattle.words.specs.Views.{KnowsPast, KnowsReferences}
@@ -19,7 +20,7 @@ use Rattle.filling_base.proofs.batch.Batch.try_run.Goals as goal
 
 pub returns-in-Some-clause-told : goal.returns-in-Some-clause-told
 returns-in-Some-clause-told g c told =
-    c.in-Some.ensures.tells.told (subst (λ (p : PassState). IsKnownDone (g.K.BatchData.batch c.args.self.now.key) p.view c.args.index) (sym c.begin-holding.ensures.same) told)
+    ap (λ tried. Ok tried) (c.in-Some.ensures.tells.told (subst (λ (p : PassState). IsKnownDone (g.K.BatchData.batch c.args.self.now.key) p.view c.args.index) (sym c.begin-holding.ensures.same) told))
 
 pub steps-init : goal.steps-init
 steps-init g c =
@@ -46,16 +47,11 @@ references_length-requires g c =
     let within = c.requires.within in
     subst (λ (b : Batch). s.at < b.size) same (omega arith)
 
-pub step-requires-clause-within : goal.step-requires-clause-within
-step-requires-clause-within g c =
-    let asked = c.steps.invariant.runs.for in
-    let within = c.requires.within in
-    omega arith
-
-pub steps-preserved-in-Went : goal.steps-preserved-in-Went
-steps-preserved-in-Went g c =
+pub steps-preserved-in-Ok-Went : goal.steps-preserved-in-Ok-Went
+steps-preserved-in-Ok-Went g c =
     let i = c.steps.invariant in
-    let stepped : GoesFurther (g.K.BatchData.batch c.args.self.now.key) (spot c.steps.walk) (spot c.step.new.walk) = c.in-Went.ensures.stepped in
+    let stepped : GoesFurther (g.K.BatchData.batch c.args.self.now.key) (spot c.steps.walk) (spot c.step.new.walk) =
+    rw c.in-Ok-Went.field-0-is at c.in-Ok-Went.ensures.stepped in
     let same = c.step.ensures.same in record {
       same_table = same.table ∙ i.same_table;
       same = same-then c.args.pass c.steps.walk.holding c.step.new.walk.holding i.same same;
@@ -63,46 +59,36 @@ steps-preserved-in-Went g c =
       runs = round (g.K.BatchData.batch c.args.self.now.key) c.args.index c.args.pass.view (spot c.steps.walk) (spot c.step.new.walk) i.runs stepped;
     }
 
-pub returns-in-Busy-clause-same : goal.returns-in-Busy-clause-same
-returns-in-Busy-clause-same g c =
-    let next = c.step.new.walk.holding in
-    same-then c.args.pass next c.release.result (same-then c.args.pass c.steps.walk.holding next c.steps.invariant.same c.step.ensures.same) c.release.ensures.same
+pub returns-in-Ok-Busy-clause-tells : goal.returns-in-Ok-Busy-clause-tells
+returns-in-Ok-Busy-clause-tells g c =
+    busy (g.K.BatchData.batch c.args.self.now.key) c.args.index c.in-Ok-Busy.other c.args.pass.view c.release.result.view (spot c.steps.walk) (spot c.step.new.walk)
+    c.steps.invariant.runs (rw c.in-Ok-Busy.field-0-is at c.in-Ok-Busy.ensures.stepped) c.release.ensures.released
 
-pub returns-in-Busy-clause-tells : goal.returns-in-Busy-clause-tells
-returns-in-Busy-clause-tells g c =
-    busy (g.K.BatchData.batch c.args.self.now.key) c.args.index c.in-Busy.other c.args.pass.view c.release.result.view (spot c.steps.walk) (spot c.step.new.walk)
-    c.steps.invariant.runs c.in-Busy.ensures.stepped c.release.ensures.released
-
-pub returns-in-Busy-clause-bodies : goal.returns-in-Busy-clause-bodies
-returns-in-Busy-clause-bodies g c =
+pub returns-in-Ok-Busy-clause-bodies : goal.returns-in-Ok-Busy-clause-bodies
+returns-in-Ok-Busy-clause-bodies g c =
     let runs = g.K.Fills.runs c.args.self.now.key in
     let next = c.step.new.walk.holding in
     counts-then runs c.args.pass next c.release.result
     (counts-then runs c.args.pass c.steps.walk.holding next c.steps.invariant.bodies c.step.ensures.bodies) c.release.ensures.bodies
 
-pub returns-in-NoMemory-clause-same : goal.returns-in-NoMemory-clause-same
-returns-in-NoMemory-clause-same g c =
-    let next = c.step.new.walk.holding in
-    same-then c.args.pass next c.release-in-NoMemory.result (same-then c.args.pass c.steps.walk.holding next c.steps.invariant.same c.step.ensures.same) c.release-in-NoMemory.ensures.same
+pub returns-in-Err-clause-tells : goal.returns-in-Err-clause-tells
+returns-in-Err-clause-tells g c =
+    out-of-memory (g.K.BatchData.batch c.args.self.now.key) c.args.index c.args.pass.view c.release-in-Err.result.view (spot c.steps.walk) (spot c.step.new.walk)
+    c.steps.invariant.runs c.in-Err.ensures.stepped c.release-in-Err.ensures.released
 
-pub returns-in-NoMemory-clause-tells : goal.returns-in-NoMemory-clause-tells
-returns-in-NoMemory-clause-tells g c =
-    out-of-memory (g.K.BatchData.batch c.args.self.now.key) c.args.index c.args.pass.view c.release-in-NoMemory.result.view (spot c.steps.walk) (spot c.step.new.walk)
-    c.steps.invariant.runs c.in-NoMemory.ensures.stepped c.release-in-NoMemory.ensures.released
-
-pub returns-in-NoMemory-clause-bodies : goal.returns-in-NoMemory-clause-bodies
-returns-in-NoMemory-clause-bodies g c =
+pub returns-in-Err-clause-bodies : goal.returns-in-Err-clause-bodies
+returns-in-Err-clause-bodies g c =
     let runs = g.K.Fills.runs c.args.self.now.key in
     let next = c.step.new.walk.holding in
-    counts-then runs c.args.pass next c.release-in-NoMemory.result
-    (counts-then runs c.args.pass c.steps.walk.holding next c.steps.invariant.bodies c.step.ensures.bodies) c.release-in-NoMemory.ensures.bodies
+    counts-then runs c.args.pass next c.release-in-Err.result
+    (counts-then runs c.args.pass c.steps.walk.holding next c.steps.invariant.bodies c.step.ensures.bodies) c.release-in-Err.ensures.bodies
 
-pub returns-in-Busy-clause-told : goal.returns-in-Busy-clause-told
-returns-in-Busy-clause-told g c told =
+pub returns-in-Ok-Busy-clause-told : goal.returns-in-Ok-Busy-clause-told
+returns-in-Ok-Busy-clause-told g c told =
     absurd (c.in_default.ensures.tells.untold (subst (λ (p : PassState). IsKnownDone (g.K.BatchData.batch c.args.self.now.key) p.view c.args.index) (sym c.begin-holding.ensures.same) told))
 
-pub returns-in-NoMemory-clause-told : goal.returns-in-NoMemory-clause-told
-returns-in-NoMemory-clause-told g c told =
+pub returns-in-Err-clause-told : goal.returns-in-Err-clause-told
+returns-in-Err-clause-told g c told =
     absurd (c.in_default.ensures.tells.untold (subst (λ (p : PassState). IsKnownDone (g.K.BatchData.batch c.args.self.now.key) p.view c.args.index) (sym c.begin-holding.ensures.same) told))
 
 -- no reference is left, and the place is filled
@@ -117,9 +103,6 @@ fill-holding-requires-clause-within g c =
     let asked = runs.for in
     let within = c.requires.within in
     subst (λ (b : Batch). s.at < b.size) same (omega arith)
-
-pub fill-holding-requires-clause-held : goal.fill-holding-requires-clause-held
-fill-holding-requires-clause-held g c = c.steps.invariant.runs.walks.holds.these c.steps.walk.at (inl refl)
 
 pub fill-holding-requires-clause-ready : goal.fill-holding-requires-clause-ready
 fill-holding-requires-clause-ready g c =
@@ -146,15 +129,6 @@ fill-holding-requires-clause-past g c =
     (past-later b s.view s.view (asked_place s) s.at (keeps-same s.view) top walks.past)
 
 -- memory ran out for it
-pub release-requires-then-is_err-clause-same_table : goal.release-requires-then-is_err-clause-same_table
-release-requires-then-is_err-clause-same_table g c = c.fill-holding.ensures.same.table ∙ c.steps.invariant.same_table
-
-pub release-requires-then-is_err-clause-within : goal.release-requires-then-is_err-clause-within
-release-requires-then-is_err-clause-within g c =
-    let asked = c.steps.invariant.runs.for in
-    let within = c.requires.within in
-    omega arith
-
 pub release-requires-then-is_err-clause-walks : goal.release-requires-then-is_err-clause-walks
 release-requires-then-is_err-clause-walks g c =
     let invariant = c.self.invariant in
@@ -166,11 +140,6 @@ release-requires-then-is_err-clause-walks g c =
     let told = filled-none (g.K.BatchData.batch c.self.inside.key) s.at (g.K.Fills.runs c.self.inside.key s.at) c.steps.walk.holding.bodies after.bodies s.view after.view c.fill-holding.result.1
     (sym c.is_err.ensures.value ∙ c.if-is_err.true) c.fill-holding.ensures.tells c.fill-holding.ensures.bodies in
     (starved b s.view after.view s.at s.next s.frames c.steps.invariant.runs.walks told.0 (subst (λ (b : Batch). IsRevocation b s.at) (sym same) told.1)).stays.walks
-
-pub returns-then-is_err-clause-same : goal.returns-then-is_err-clause-same
-returns-then-is_err-clause-same g c =
-    let next = c.fill-holding.result.0 in
-    same-then c.args.pass next c.release-then-is_err.result (same-then c.args.pass c.steps.walk.holding next c.steps.invariant.same c.fill-holding.ensures.same) c.release-then-is_err.ensures.same
 
 pub returns-then-is_err-clause-tells : goal.returns-then-is_err-clause-tells
 returns-then-is_err-clause-tells g c =
@@ -242,11 +211,6 @@ end-requires-in-None g c =
     (sym c.is_err.ensures.value ∙ c.if-is_err.false) c.fill-holding.ensures.tells c.fill-holding.ensures.bodies in
     over-idle b c.args.index c.args.pass.view after.view s c.steps.invariant.runs told.0 empty
 
-pub returns-in-None-clause-same : goal.returns-in-None-clause-same
-returns-in-None-clause-same g c =
-    let after = c.fill-holding.result.0 in
-    subst (λ (p : PassState). IsSamePass c.args.pass p) (sym c.end-in-None.ensures) (same-then c.args.pass c.steps.walk.holding after c.steps.invariant.same c.fill-holding.ensures.same)
-
 pub returns-in-None-clause-tells : goal.returns-in-None-clause-tells
 returns-in-None-clause-tells g c =
     let b = g.K.BatchData.batch c.args.self.now.key in
@@ -255,7 +219,7 @@ returns-in-None-clause-tells g c =
     let empty : c.steps.walk.stack.items ≡ [] = grind (arith, common_steps) in
     let told = filled-all (g.K.BatchData.batch c.self.inside.key) s.at (g.K.Fills.runs c.self.inside.key s.at) c.steps.walk.holding.bodies after.bodies s.view after.view c.fill-holding.result.1
     (sym c.is_err.ensures.value ∙ c.if-is_err.false) c.fill-holding.ensures.tells c.fill-holding.ensures.bodies in
-    subst (λ (p : PassState). TriedMeans b c.args.index c.args.pass.view Done p.view) (sym c.end-in-None.ensures)
+    subst (λ (p : PassState). TriedMeans b c.args.index c.args.pass.view (Ok Done) p.view) (sym c.end-in-None.ensures)
     (over b c.args.index c.args.pass.view after.view s c.steps.invariant.runs told.0 empty)
 
 pub returns-in-None-clause-bodies : goal.returns-in-None-clause-bodies

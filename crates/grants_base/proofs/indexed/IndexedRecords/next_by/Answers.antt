@@ -11,10 +11,10 @@ use Rattle.grants_base.proofs.indexed.IndexedRecords.next_by.Goals as goal
 pub next-requires : goal.next-requires
 next-requires c =
     subst (λ (side : HolderKey). AreAscending (slots_under c.self.inside.by side)) (sym c.side_by.ensures)
-    (slots_rise is_made_by c.self.inside.by c.self.inside.records.items (User c.args.user) c.args.kind c.args.table c.self.invariant.grantors)
+    (slots_rise is_made_by (slots_under c.self.inside.by) c.self.inside.records.items (User c.args.user) c.args.kind c.args.table c.self.invariant.grantors)
 
 pub returns : goal.returns
 returns c =
     let found = subst (λ (side : HolderKey). IsFirst (is_one_of (slots_under c.self.inside.by side)) c.args.from c.next.result) c.side_by.ensures c.next.ensures in
     subst (λ (entries : List Record). IsNext (is_by c.args.user c.args.kind c.args.table) (recorded entries) c.args.from c.next.result) c.self.view_is
-    (next_found is_made_by c.self.inside.by c.self.inside.records.items (User c.args.user) c.args.kind c.args.table c.self.invariant.grantors c.args.from c.next.result found)
+    (next_found is_made_by (slots_under c.self.inside.by) c.self.inside.records.items (User c.args.user) c.args.kind c.args.table c.self.invariant.grantors c.args.from c.next.result found)

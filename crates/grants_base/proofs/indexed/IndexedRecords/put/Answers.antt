@@ -8,9 +8,3 @@ returns-in_err-push-clause-err c =
     let more = map unended (take c.loop-grant.grant-index c.args.grants.now) in
     on_err c.from_residual.result (take (length c.args.self.now) c.push.new.self ≡ c.args.self.now)
     (ap (take (length c.args.self.now)) (c.in_err-push.ensures.err ∙ c.loop-grant.invariant) ∙ take_front c.args.self.now more)
-
-pub returns-in_err-end_mixed-clause-err : goal.returns-in_err-end_mixed-clause-err
-returns-in_err-end_mixed-clause-err c =
-    let more = map unended (take c.loop-grant.grant-index c.args.grants.now) in
-    on_err c.from_residual-in_err-end_mixed.result (take (length c.args.self.now) c.end_mixed.new.self ≡ c.args.self.now)
-    (ap (take (length c.args.self.now)) (c.in_err-end_mixed.ensures.err ∙ c.loop-grant.invariant) ∙ take_front c.args.self.now more)

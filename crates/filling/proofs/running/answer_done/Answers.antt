@@ -1,7 +1,0 @@
-use Rattle.filling.proofs.running.answer_done.Goals as goal
-
-pub returns-in-Ok-Some-clause-tells : goal.returns-in-Ok-Some-clause-tells
-returns-in-Ok-Some-clause-tells c =
-    let answer = rw c.in-Ok-Some.is at c.outcome-pass.ensures.tells in
-    let told = rw c.in-Ok-Some.field-0-is at answer in
-    (told.0, told.2)
