@@ -224,7 +224,8 @@ impl LineRun {
         requires { IsSteady runner.now.plan self.now }
         ensures room { result ≡ true → HasRoomForLine runner.now.plan self.now }
         ensures few { result ≡ true → length self.now.waiting.items < runner.now.plan.settings.batch }
-        ensures full { HasRoomForLine runner.now.plan self.now → length self.now.waiting.items < runner.now.plan.settings.batch → result ≡ true }
+        ensures full { HasRoomForLine runner.now.plan self.now
+            → length self.now.waiting.items < runner.now.plan.settings.batch → result ≡ true }
         ensures none { self.now.waiting.items ≡ [] → result ≡ true }
     {
         let batch = runner.plan.settings.batch;
