@@ -1,4 +1,5 @@
-use Rattle.batched_text.proofs.Reports.{longer, parts}
+use Rattle.bohm_base.proofs.Beginnings.{parts}
+use Rattle.batched_text.proofs.Reports.{longer}
 use Rattle.batched_text.proofs.laws.reports_stand.Goals as goal
 
 pub returns : goal.returns
