@@ -14,7 +14,7 @@ use Rattle.grants_base.specs.declared.grantor_set.Granted.{Granted}
 use Rattle.grants_base.specs.Index.{is_to}
 use Rattle.grants_base.specs.Sides.{side_of, to_side}
 use Rattle.grants_base.specs.declared.in_force.GranteeIndex.{GranteeIndex}
-use Rattle.grants_base.specs.declared.in_force.Side.{Side}
+use Rattle.grants_base.specs.declared.side.Several.{Several}
 use Rattle.grants_base.specs.declared.index.HolderKey.{HolderKey}
 use Rattle.grants_base.proofs.ForceLaws.{by_apart, by_ended, by_granted, by_other, force_apart, force_ended, force_granted, force_other}
 use Rattle.grants_base.proofs.SideLaws.{to_side-same}
@@ -83,10 +83,10 @@ pub changed_in : {X Y : Type 0} (f : X → Y) (here : Bool) (P : Type 0) (was no
 changed_in f true P was now both = (both.0, tt)
 changed_in f false P was now both = (tt, ap f both.1)
 
-pub made_in : (here : Bool) (change : List ℕ → List ℕ) (was now : Side) → OnTrue here (now.made ≡ change was.made) × OnFalse here (now ≡ was)
+pub made_in : (here : Bool) (change : List ℕ → List ℕ) (was now : Several) → OnTrue here (now.made ≡ change was.made) × OnFalse here (now ≡ was)
     → now.made ≡ (if here then change was.made else was.made)
 made_in true change was now both = both.0
-made_in false change was now both = ap (λ (side : Side). side.made) both.1
+made_in false change was now both = ap (λ (side : Several). side.made) both.1
 
 pub same_in : {X Y : Type 0} (f : X → Y) (here : Bool) (was now : X) → OnTrue here (f now ≡ f was) × OnFalse here (now ≡ was) → f now ≡ f was
 same_in f true was now both = both.0
@@ -225,4 +225,4 @@ module _ (old new : GranteeIndex) (whole : new.is_whole ≡ old.is_whole) (entri
 pub keeps_same : (old new : GranteeIndex) → new.is_whole ≡ old.is_whole → ((other : HolderKey) → side_under new other ≡ side_under old other)
     → (entries : List Record) → KeepsInForce old entries → KeepsInForce new entries
 keeps_same old new whole same entries keeps is grantee kind table =
-    subst (λ (side : Side). IsPrivilegeOf grantee kind table entries side.privilege) (sym (same (side_of grantee kind table))) (keeps (sym whole ∙ is) grantee kind table)
+    subst (λ (side : Several). IsPrivilegeOf grantee kind table entries side.privilege) (sym (same (side_of grantee kind table))) (keeps (sym whole ∙ is) grantee kind table)

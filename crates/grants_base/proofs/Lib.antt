@@ -12,3 +12,4 @@ pub mod SlotSetLaws
 pub mod GrantorLaws
 pub mod IndexedLaws
 pub mod PrivilegeLaws
+pub mod KeptLaws

@@ -1,26 +1,24 @@
 -- The grants in force under each grantee, kind and table, as they are kept and found.
-use Rattle.std.specs.Prelude.{◌≡◌, ℕ, Bool, true, List, [], slice_get, unwrap_or}
+use Rattle.std.specs.Prelude.{◌≡◌, ℕ, Bool, true, List, slice_get, unwrap_or}
 use Rattle.std.specs.Bool.{OnFalse, OnTrue}
 use Rattle.std.specs.HashMap.{get}
 use Rattle.model_base.specs.declared.deed.Grant.{Grant}
 use Rattle.model_base.specs.declared.deed.Grantee.{Grantee}
 use Rattle.model_base.specs.declared.deed.Kind.{Kind}
 use Rattle.model_base.specs.declared.deed.Record.{Record}
-use Rattle.grants_base.specs.Force.{AreByGrantors, IsForceOf, Privilege, force_of, gives_to, greatest_end, is_in_force, no_privilege}
+use Rattle.grants_base.specs.Force.{AreByGrantors, IsForceOf, Privilege, force_of, gives_to, greatest_end, is_in_force}
 use Rattle.grants_base.specs.Index.{IsFirst, is_to}
+use Rattle.grants_base.specs.Kept.{no_side}
 use Rattle.grants_base.specs.Sides.{same_side, side_of}
 use Rattle.grants_base.specs.View.{View, entries, slot_at}
 use Rattle.grants_base.specs.declared.force.NextBy.{NextBy}
 use Rattle.grants_base.specs.declared.force.NextInForce.{NextInForce}
 use Rattle.grants_base.specs.declared.in_force.GranteeIndex.{GranteeIndex}
-use Rattle.grants_base.specs.declared.in_force.Side.{Side}
+use Rattle.grants_base.specs.declared.side.Several.{Several}
 use Rattle.grants_base.specs.declared.index.HolderKey.{HolderKey}
 
-abbrev pub no_side : Side
-no_side = record { made = []; privilege = no_privilege }
-
 -- what an index keeps under a side
-abbrev pub side_under : GranteeIndex → HolderKey → Side
+abbrev pub side_under : GranteeIndex → HolderKey → Several
 side_under index key = unwrap_or (get same_side index.sides key) no_side
 
 -- the slots of all grants under a side

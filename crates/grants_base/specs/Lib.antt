@@ -6,4 +6,5 @@ pub mod Marks
 pub mod SlotSet
 pub mod GrantorSet
 pub mod Force
+pub mod Kept
 pub mod InForce

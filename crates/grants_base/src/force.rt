@@ -1,7 +1,7 @@
 //! What is in force of a privilege, and when it was lost last.
 
 ghost use Rattle.std.specs.Prelude.{◌≡◌, true, OnOk};
-ghost use Rattle.grants_base.specs.Force.{HasGainedGrant, HasLostGrant, IsGranted, IsWithdrawn, force_of, held_by_one, held_by_others, later_of, no_grant_slots, no_privilege, slots_given};
+ghost use Rattle.grants_base.specs.Force.{HasGainedGrant, HasLostGrant, IsGranted, IsWithdrawn, force_of, held_by_one, held_by_others, later_of, no_grant_slots, privilege_of, slots_given};
 ghost use Rattle.grants_base.specs.GrantorSet.{has_by};
 ghost use Rattle.grants_base.specs.Index.{IsFirst, is_one_of};
 
@@ -37,14 +37,14 @@ pub struct NextBy {
 
 /// A grant in force: its slot, who made it, and whether it gives the option.
 #[derive(Clone, Copy)]
-struct Given {
-    slot: usize,
-    grantor: User,
-    option: bool,
+pub(crate) struct Given {
+    pub slot: usize,
+    pub grantor: User,
+    pub option: bool,
 }
 
 /// The slot of the grant, if it isn't below another, nor without the option where that is asked for.
-fn slot_of(one: Option<Given>, option: bool, from: usize) -> Option<usize>
+pub(crate) fn slot_of(one: Option<Given>, option: bool, from: usize) -> Option<usize>
     ensures { IsFirst (is_one_of (slots_given option (held_by_one one))) from result }
 {
     match one {
@@ -54,7 +54,7 @@ fn slot_of(one: Option<Given>, option: bool, from: usize) -> Option<usize>
 }
 
 /// The slot of the grant, if it isn't below another and the user made it.
-fn slot_by(one: Option<Given>, grantor: User, from: usize) -> Option<usize>
+pub(crate) fn slot_by(one: Option<Given>, grantor: User, from: usize) -> Option<usize>
     ensures { IsFirst (has_by (held_by_one one).by grantor) from result }
 {
     match one {
@@ -214,15 +214,15 @@ impl Model for Privilege {
 }
 
 impl Privilege {
-    /// No grants. It doesn't allocate.
-    pub fn new() -> Self
-        ensures { result ≡ no_privilege }
+    /// At most one grant, and these last losses. It doesn't allocate.
+    pub fn of(one: Option<Given>, lost: Option<Place>, lost_with_option: Option<Place>) -> Self
+        ensures { result ≡ privilege_of (held_by_one one) no_grant_slots lost lost_with_option }
     {
         Privilege {
-            one: None,
+            one,
             others: None,
-            lost: None,
-            lost_with_option: None,
+            lost,
+            lost_with_option,
         }
     }
 

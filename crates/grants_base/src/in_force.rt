@@ -5,54 +5,18 @@ ghost use Rattle.model_base.specs.declared.deed.Record.{Record};
 ghost use Rattle.grants_base.specs.Book.{end_slot, unended};
 ghost use Rattle.grants_base.specs.Force.{IsGranted, IsWithdrawn, force_of};
 ghost use Rattle.grants_base.specs.GrantorSet.{has_by};
-ghost use Rattle.grants_base.specs.InForce.{IsChanged, KeepsInForce, made_under, no_side, privilege_under, side_under};
+ghost use Rattle.grants_base.specs.InForce.{IsChanged, KeepsInForce, made_under, privilege_under, side_under};
 ghost use Rattle.grants_base.specs.Index.{IsFirst, is_one_of};
 ghost use Rattle.grants_base.specs.Sides.{AreAscending, IsEmpty, IsPopped, IsPushed, IsSame, to_side};
 ghost use Rattle.grants_base.specs.declared.index.HolderKey.{HolderKey};
 
-use crate::force::{NextBy, NextInForce, Privilege};
+use crate::force::{NextBy, NextInForce};
 use crate::grantor_set::Granted;
-use crate::index::{HolderKey, Slots, to_side};
+use crate::index::{HolderKey, to_side};
+use crate::side::Side;
 use model_base::{Grant, HashSeed, Place, Record, User};
 use std::alloc::{AllocError, Global};
 use std::collections::HashMap;
-
-/// What is kept under a grantee, kind and table: the slots of all grants, and what is in force of them.
-#[derive(Drop)]
-struct Side {
-    made: Slots,
-    privilege: Privilege,
-}
-
-impl Side {
-    /// No grants. It doesn't allocate.
-    fn new(alloc: Global) -> Self
-        ensures { result ≡ no_side }
-    {
-        Side {
-            made: Slots::new(alloc),
-            privilege: Privilege::new(),
-        }
-    }
-
-    /// Adds the slot of a grant, and, where that is asked for, to those in force, if there is memory for it: then it returns true. On `Err`,
-    /// out of memory, nothing has changed.
-    #[inline(always)]
-    fn push(
-        &mut self,
-        alloc: Global,
-        granted: Granted,
-        option: bool,
-        is_whole: bool,
-    ) -> Result<bool, AllocError>
-        ensures made { OnOk result (self.new.made ≡ self.old.made ++ granted.slot ∷ []) }
-        ensures kept { result ≡ Ok true → IsGranted granted option self.old.privilege self.new.privilege }
-        ensures err { OnErr result (self.new ≡ self.old) }
-    {
-        self.made.push(granted.slot)?;
-        Ok(is_whole && self.privilege.push(alloc, granted, option).is_ok())
-    }
-}
 
 /// The grants under each grantee, kind and table, and what is in force of them. Where memory ran out, or grants and ends were taken back,
 /// that isn't whole any more: then it says nothing of what is in force.
@@ -102,7 +66,7 @@ impl GranteeIndex {
         ensures kept { result ≡ Ok true → IsChanged key (IsGranted granted option) self.old self.new }
         ensures err { OnErr result ((other : HolderKey) → side_under self.new other ≡ side_under self.old other) }
     {
-        let side = self.sides.entry(key)?.or_insert(Side::new(self.alloc));
+        let side = self.sides.entry(key)?.or_insert(Side::new());
         side.push(self.alloc, granted, option, self.is_whole)
     }
 
@@ -113,7 +77,7 @@ impl GranteeIndex {
         ensures taken { result ≡ true → IsChanged key.now (IsWithdrawn granted.now place option) self.old self.new }
     {
         match self.sides.get_mut(key) {
-            Some(side) => side.privilege.end(granted, place, option),
+            Some(side) => side.end(granted, place, option),
             None => false,
         }
     }
@@ -140,7 +104,7 @@ impl GranteeIndex {
     {
         self.is_whole = false;
         if let Some(side) = self.sides.get_mut(&to_side(grant)) {
-            side.made.pop();
+            side.pop();
         }
     }
 
@@ -169,7 +133,7 @@ impl GranteeIndex {
         ensures { IsFirst (is_one_of (made_under self.now key.now)) from result }
     {
         match self.sides.get(key) {
-            Some(side) => side.made.next(from),
+            Some(side) => side.next_made(from),
             None => None,
         }
     }
@@ -186,7 +150,7 @@ impl GranteeIndex {
             return None;
         }
         match self.sides.get(key) {
-            Some(side) => Some(side.privilege.next(option, from)),
+            Some(side) => Some(side.next(option, from)),
             None => Some(NextInForce {
                 slot: None,
                 lost: None,
@@ -203,7 +167,7 @@ impl GranteeIndex {
             return None;
         }
         match self.sides.get(key) {
-            Some(side) => Some(side.privilege.next_by(grantor, from)),
+            Some(side) => Some(side.next_by(grantor, from)),
             None => Some(NextBy { slot: None }),
         }
     }

@@ -119,6 +119,16 @@ impl Slots {
         }
     }
 
+    /// A single slot. It doesn't allocate.
+    pub fn of(alloc: Global, slot: usize) -> Self
+        ensures { result ≡ slot ∷ [] }
+    {
+        Slots {
+            first: Some(slot),
+            later: Vec::new(alloc),
+        }
+    }
+
     /// Adds a slot last. On `Err`, out of memory, the slots are as they were.
     #[inline(always)]
     pub fn push(&mut self, slot: usize) -> Result<(), AllocError>

@@ -16,6 +16,7 @@ mod index;
 mod indexed;
 mod indexed_grants;
 mod records;
+mod side;
 mod slot_set;
 
 pub use entries::{

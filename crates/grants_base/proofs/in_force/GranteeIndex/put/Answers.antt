@@ -3,9 +3,9 @@ use Rattle.std.specs.Prelude.{unwrap_or}
 use Rattle.std.specs.HashMap.{get}
 use Rattle.std.specs.HashMap.Entry.{map_with_value}
 use Rattle.grants_base.specs.Force.{IsGranted}
-use Rattle.grants_base.specs.InForce.{no_side}
+use Rattle.grants_base.specs.Kept.{no_side}
 use Rattle.grants_base.specs.Sides.{same_side}
-use Rattle.grants_base.specs.declared.in_force.Side.{Side}
+use Rattle.grants_base.specs.declared.side.Several.{Several}
 use Rattle.grants_base.proofs.Keeping.{changed_in, made_in, put_into, same_in, when_ok}
 use Rattle.grants_base.proofs.SideLaws.{on_err_from, side_true}
 use Rattle.grants_base.proofs.in_force.GranteeIndex.put.Goals as goal
@@ -21,8 +21,8 @@ returns-clause-made c =
     let held : c.or_insert-side.result.now ≡ unwrap_or (get same_side was key) no_side =
     c.or_insert-side.ensures.value ∙ ap (λ found. unwrap_or found c.new.result) c.in_ok-self.ensures.value ∙ ap (unwrap_or (get same_side was key)) c.new.ensures in
     let put =
-    put_into (same_side key other) no_side value (λ (old new : Side). new.made ≡ old.made ++ c.args.granted.slot ∷ []) (get same_side was key) (get same_side was other) now
-    (subst (λ (old : Side). value.made ≡ old.made ++ c.args.granted.slot ∷ []) held given)
+    put_into (same_side key other) no_side value (λ (old new : Several). new.made ≡ old.made ++ c.args.granted.slot ∷ []) (get same_side was key) (get same_side was other) now
+    (subst (λ (old : Several). value.made ≡ old.made ++ c.args.granted.slot ∷ []) held given)
     (λ here. ap (get same_side was) (side_true key other here))
     ((c.in_ok-self.ensures.update.0 value).0 other) in
     let is = made_in (same_side key other) (λ (slots : List ℕ). slots ++ c.args.granted.slot ∷ []) (unwrap_or (get same_side was other) no_side) (unwrap_or now no_side) put in
@@ -37,11 +37,11 @@ returns-clause-kept c = λ is other.
     let held : c.or_insert-side.result.now ≡ unwrap_or (get same_side was key) no_side =
     c.or_insert-side.ensures.value ∙ ap (λ found. unwrap_or found c.new.result) c.in_ok-self.ensures.value ∙ ap (unwrap_or (get same_side was key)) c.new.ensures in
     let put =
-    put_into (same_side key other) no_side value (λ (old new : Side). IsGranted c.args.granted c.args.option old.privilege new.privilege) (get same_side was key) (get same_side was other) now
-    (subst (λ (old : Side). IsGranted c.args.granted c.args.option old.privilege value.privilege) held (c.push.ensures.kept is))
+    put_into (same_side key other) no_side value (λ (old new : Several). IsGranted c.args.granted c.args.option old.privilege new.privilege) (get same_side was key) (get same_side was other) now
+    (subst (λ (old : Several). IsGranted c.args.granted c.args.option old.privilege value.privilege) held (c.push.ensures.kept is))
     (λ here. ap (get same_side was) (side_true key other here))
     ((c.in_ok-self.ensures.update.0 value).0 other) in
-    let changed = changed_in (λ (side : Side). side.privilege) (same_side key other) _ (unwrap_or (get same_side was other) no_side) (unwrap_or now no_side) put in
+    let changed = changed_in (λ (side : Several). side.privilege) (same_side key other) _ (unwrap_or (get same_side was other) no_side) (unwrap_or now no_side) put in
     grind (arith, changed)
 
 pub returns-clause-err : goal.returns-clause-err
@@ -55,10 +55,10 @@ returns-clause-err c =
     let held : c.or_insert-side.result.now ≡ unwrap_or (get same_side was key) no_side =
     c.or_insert-side.ensures.value ∙ ap (λ found. unwrap_or found c.new.result) c.in_ok-self.ensures.value ∙ ap (unwrap_or (get same_side was key)) c.new.ensures in
     let put =
-    put_into (same_side key other) no_side value (λ (old new : Side). new ≡ old) (get same_side was key) (get same_side was other) now
+    put_into (same_side key other) no_side value (λ (old new : Several). new ≡ old) (get same_side was key) (get same_side was other) now
     (same ∙ held)
     (λ here. ap (get same_side was) (side_true key other here))
     ((c.in_ok-self.ensures.update.0 value).0 other) in
-    let is = same_in (λ (side : Side). side) (same_side key other) (unwrap_or (get same_side was other) no_side) (unwrap_or now no_side) put in
+    let is = same_in (λ (side : Several). side) (same_side key other) (unwrap_or (get same_side was other) no_side) (unwrap_or now no_side) put in
     grind (arith, is))
     c.push.ensures.err
