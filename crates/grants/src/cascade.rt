@@ -1,48 +1,20 @@
 //! What a revocation takes with it.
 
-ghost use Rattle.std.specs.Prelude.{◌⊎◌, ◌&&◌, ◌==◌, not, false, ◌≡◌, ◌<◌, ◌≤◌, ◌+◌, ℕ, List, Some, IfOk, IsSome, OnOk, length, true, is_some, unwrap_or};
-ghost use Rattle.std.specs.BTreeMap.{get};
+ghost use Rattle.std.specs.Prelude.{◌⊎◌, ◌&&◌, ◌==◌, not, false, ◌≡◌, ◌<◌, ◌≤◌, ◌+◌, ℕ, List, Some, IfOk, IsSome, OnOk, length, true, is_some};
 ghost use Rattle.std.specs.Option.{option_map_or};
 ghost use Rattle.model_base.specs.Privileges.{concerns, ended_by, names};
 ghost use Rattle.model_base.specs.declared.deed.Deed.{Deed};
 ghost use Rattle.model_base.specs.declared.deed.Grant.{Grant};
 ghost use Rattle.grants.specs.Pass.{concerned, keeps, outlasts};
 ghost use Rattle.grants_base.specs.Index.{is_one_of};
-ghost use Rattle.grants.specs.Work.{AllPassed, AreDue, AreDueOrBorne, AreEnds, ArePassed, IsNextCandidate, IsNextNamed, IsReplaced, bears, ended_in_all, kind_holder_cmp, kind_holder_key, slots_of, staying};
-ghost use Rattle.grants.specs.declared.cascade.KindHolderKey.{KindHolderKey};
+ghost use Rattle.grants.specs.Work.{AllPassed, AreDue, AreDueOrBorne, AreEnds, ArePassed, IsNextCandidate, IsNextNamed, bears, ended_in_all, slots_of, staying};
 ghost use Rattle.grants_base.specs.View.{ShowsDeeds, slot_at};
 
 use crate::ended::Ended;
+use crate::lost_options::{KindHolder, LostOptions};
 use grants_base::{Holder, Records, SlotSet};
 use model_base::{Grant, Grantee, Kind, RecordName, Revocation, User};
 use std::alloc::{AllocError, Global};
-use std::collections::BTreeMap;
-
-/// A user who has the option of a kind, or had it.
-#[derive(Clone, Copy)]
-struct KindHolder {
-    user: User,
-    kind: Kind,
-}
-
-/// The user of a holder, with the code of its kind.
-#[derive(Clone, Copy, PartialEq, Eq, PartialOrd, Ord)]
-pub(crate) struct KindHolderKey {
-    user: User,
-    kind: u8,
-}
-
-impl KindHolder {
-    /// What is looked up for it.
-    fn key(&self) -> KindHolderKey
-        ensures { result ≡ kind_holder_key self.now.user self.now.kind }
-    {
-        KindHolderKey {
-            user: self.user,
-            kind: self.kind.code(),
-        }
-    }
-}
 
 /// The grant of the slot, if it is in force and the revocation speaks of its kind and table.
 fn concerned<V: Records>(view: &mut V, i: usize, revocation: &Revocation) -> Option<Grant>
@@ -168,45 +140,27 @@ fn first_bearer<V: Records>(
     from
 }
 
-/// The slot below which no grant gives the holder the option of its kind any more, as far as it was looked at.
-fn passed_by(asked: &BTreeMap<KindHolderKey, usize>, holder: &KindHolder) -> usize
-    ensures { result ≡ unwrap_or (get kind_holder_cmp asked.now (kind_holder_key holder.now.user holder.now.kind)) 0 }
-{
-    asked.get(&holder.key()).copied().unwrap_or(0)
-}
-
-/// Keeps that slot, if the holder is one of those that are asked about.
-fn pass(asked: &mut BTreeMap<KindHolderKey, usize>, holder: &KindHolder, slot: usize)
-    ensures { IsReplaced asked.old asked.new (kind_holder_key holder.now.user holder.now.kind) slot }
-{
-    if let Some(passed) = asked.get_mut(&holder.key()) {
-        *passed = slot;
-    }
-}
-
 /// Whether the holder keeps the option of its kind by a slot below this one that hasn't ended. For one who lost it, it goes on where
-/// it stopped when it was asked last.
+/// that one's loss was looked at last.
 fn keeps<V: Records>(
     view: &mut V,
     revocation: &Revocation,
     ended: &Ended,
-    asked: &mut BTreeMap<KindHolderKey, usize>,
+    lost: &LostOptions,
     holder: &KindHolder,
     below: usize,
 ) -> bool
     requires within { below ≤ length (V.shown view.old).slots }
-    requires passed { AllPassed revocation.now (V.shown view.old) (slots_of ended.now.ends) asked.old }
+    requires passed { AllPassed revocation.now (V.shown view.old) (slots_of ended.now.ends) lost.now }
     ensures value { result ≡ keeps (staying revocation.now (V.shown view.old) (slots_of ended.now.ends) below)
         holder.now.user holder.now.kind }
-    ensures passed { AllPassed revocation.now (V.shown view.old) (slots_of ended.now.ends) asked.new }
     ensures same { V.shown view.new ≡ V.shown view.old }
 {
-    let start = passed_by(asked, holder);
+    let start = lost.passed_by(holder);
     if below <= start {
         return false;
     }
     let first = first_bearer(view, revocation, ended, holder, start, below);
-    pass(asked, holder, first);
     first < below
 }
 
@@ -224,14 +178,13 @@ fn stays<V: Records>(
     owner: User,
     revocation: &Revocation,
     ended: &Ended,
-    asked: &mut BTreeMap<KindHolderKey, usize>,
+    lost: &LostOptions,
     due: &DueGrant,
 ) -> bool
     requires within { due.now.slot ≤ length (V.shown view.old).slots }
-    requires passed { AllPassed revocation.now (V.shown view.old) (slots_of ended.now.ends) asked.old }
+    requires passed { AllPassed revocation.now (V.shown view.old) (slots_of ended.now.ends) lost.now }
     ensures value { result ≡ outlasts owner
         (staying revocation.now (V.shown view.old) (slots_of ended.now.ends) due.now.slot) revocation.now due.now.grant }
-    ensures passed { AllPassed revocation.now (V.shown view.old) (slots_of ended.now.ends) asked.new }
     ensures same { V.shown view.new ≡ V.shown view.old }
 {
     let grant = &due.grant;
@@ -242,7 +195,7 @@ fn stays<V: Records>(
         user: grant.grantor,
         kind: grant.kind,
     };
-    owner == grant.grantor || keeps(view, revocation, ended, asked, &grantor, due.slot)
+    owner == grant.grantor || keeps(view, revocation, ended, lost, &grantor, due.slot)
 }
 
 /// Whether the slot has a grant in force that the revocation names.
@@ -366,12 +319,11 @@ fn add_grants_by<V: Records>(
     Ok(())
 }
 
-/// The slots that are still to be judged; the users who lost an option, each with its kind and the slot below which none gives it any
-/// more, as far as it was looked at; and the slots that have ended.
+/// The slots that are still to be judged, the options that users lost, and the slots that have ended.
 #[derive(Drop)]
 struct CascadeWork {
     due: SlotSet,
-    asked: BTreeMap<KindHolderKey, usize>,
+    lost: LostOptions,
     ended: Ended,
 }
 
@@ -384,20 +336,20 @@ fn lose<V: Records>(
     start: usize,
     work: &mut CascadeWork,
 ) -> Result<(), AllocError>
-    requires { AllPassed revocation.now (V.shown view.old) (slots_of work.old.ended.ends) work.old.asked }
+    requires { AllPassed revocation.now (V.shown view.old) (slots_of work.old.ended.ends) work.old.lost }
     ensures found { OnOk result (AreDueOrBorne revocation.now (V.shown view.old) work.new.due (slots_of work.old.ended.ends)
         holder.now.user holder.now.kind start) }
     ensures kept { OnOk result ((j : ℕ) → is_one_of work.old.due j ≡ true → is_one_of work.new.due j ≡ true) }
     ensures within { OnOk result ((j : ℕ) → is_one_of work.new.due j ≡ true
         → (is_one_of work.old.due j ≡ true) ⊎ ((start ≤ j) × (j < length (V.shown view.old).slots))) }
-    ensures passed { OnOk result (AllPassed revocation.now (V.shown view.old) (slots_of work.old.ended.ends) work.new.asked) }
+    ensures passed { OnOk result (AllPassed revocation.now (V.shown view.old) (slots_of work.old.ended.ends) work.new.lost) }
     ensures ended { work.new.ended ≡ work.old.ended }
     ensures same { V.shown view.new ≡ V.shown view.old }
 {
     let end = view.slots();
-    let passed = passed_by(&work.asked, holder);
+    let passed = work.lost.passed_by(holder);
     let first = first_bearer(view, revocation, &work.ended, holder, passed, end);
-    work.asked.insert(holder.key(), first)?;
+    work.lost.put(holder, first)?;
     add_grants_by(view, revocation, holder, start, first, &mut work.due)?;
     Ok(())
 }
@@ -415,11 +367,11 @@ fn judge<V: Records>(
     requires within { slot < length (V.shown view.old).slots }
     requires next { next ≡ slot + 1 }
     requires due { AreDue revocation.now (V.shown view.old) work.old.due (slots_of work.old.ended.ends) next }
-    requires passed { AllPassed revocation.now (V.shown view.old) (slots_of work.old.ended.ends) work.old.asked }
+    requires passed { AllPassed revocation.now (V.shown view.old) (slots_of work.old.ended.ends) work.old.lost }
     requires behind { (e : ℕ) → is_one_of (slots_of work.old.ended.ends) e ≡ true → e < slot }
     requires ends { AreEnds revocation.now (V.shown view.old) work.old.ended.ends work.old.ended.ranks }
     ensures due { OnOk result (AreDue revocation.now (V.shown view.old) work.new.due (slots_of work.new.ended.ends) next) }
-    ensures passed { OnOk result (AllPassed revocation.now (V.shown view.old) (slots_of work.new.ended.ends) work.new.asked) }
+    ensures passed { OnOk result (AllPassed revocation.now (V.shown view.old) (slots_of work.new.ended.ends) work.new.lost) }
     ensures whole { OnOk result (ended_in_all owner revocation.now (V.shown view.old) work.new.ended next
         ≡ ended_in_all owner revocation.now (V.shown view.old) work.old.ended slot) }
     ensures ends { OnOk result (AreEnds revocation.now (V.shown view.old) work.new.ended.ends work.new.ended.ranks) }
@@ -429,7 +381,7 @@ fn judge<V: Records>(
         return Ok(());
     };
     let due = DueGrant { slot, grant };
-    if stays(view, owner, revocation, &work.ended, &mut work.asked, &due) {
+    if stays(view, owner, revocation, &work.ended, &work.lost, &due) {
         return Ok(());
     }
     work.ended.push(slot, revocation.place, due.grant.name())?;
@@ -459,7 +411,7 @@ pub(crate) fn cascade<V: Records>(
     let due = named(alloc, view, revocation)?;
     let mut work = CascadeWork {
         due,
-        asked: BTreeMap::new(alloc),
+        lost: LostOptions::new(alloc),
         ended: Ended::with_room(alloc)?,
     };
     let mut next = 0;

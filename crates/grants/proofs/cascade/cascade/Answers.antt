@@ -37,7 +37,7 @@ judge-requires-clause-due g c =
 
 pub judge-requires-clause-passed : goal.judge-requires-clause-passed
 judge-requires-clause-passed g c =
-    subst (λ (v : View). AllPassed c.args.revocation.now v (slots_of c.loop-slot.work.ended.ends) c.loop-slot.work.asked) (sym c.loop-slot.invariant.same) c.loop-slot.invariant.passed
+    subst (λ (v : View). AllPassed c.args.revocation.now v (slots_of c.loop-slot.work.ended.ends) c.loop-slot.work.lost) (sym c.loop-slot.invariant.same) c.loop-slot.invariant.passed
 
 pub judge-requires-clause-behind : goal.judge-requires-clause-behind
 judge-requires-clause-behind g c =
@@ -71,7 +71,7 @@ loop-slot-preserved g c =
     record {
       same = c.in_ok-judge.ensures.same ∙ seen;
       due = subst (λ (v : View). AreDue revocation v c.judge.new.work.due (slots_of c.judge.new.work.ended.ends) (slot + 1)) seen c.in_ok-judge.ensures.due;
-      passed = subst (λ (v : View). AllPassed revocation v (slots_of c.judge.new.work.ended.ends) c.judge.new.work.asked) seen c.in_ok-judge.ensures.passed;
+      passed = subst (λ (v : View). AllPassed revocation v (slots_of c.judge.new.work.ended.ends) c.judge.new.work.lost) seen c.in_ok-judge.ensures.passed;
       ends = subst (λ (v : View). AreEnds revocation v c.judge.new.work.ended.ends c.judge.new.work.ended.ranks) seen c.in_ok-judge.ensures.ends;
       next = omega (arith, first.within);
       whole = λ borne.

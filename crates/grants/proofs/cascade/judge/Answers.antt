@@ -85,17 +85,17 @@ returns-in_default-option_holder-clause-whole g c =
 
 pub stays-requires-clause-passed : goal.stays-requires-clause-passed
 stays-requires-clause-passed g c =
-    subst (λ (v : View). AllPassed c.args.revocation.now v (slots_of c.args.work.now.ended.ends) c.args.work.now.asked) (sym c.in-Some.ensures.same) c.requires.passed
+    subst (λ (v : View). AllPassed c.args.revocation.now v (slots_of c.args.work.now.ended.ends) c.args.work.now.lost) (sym c.in-Some.ensures.same) c.requires.passed
 
 pub returns-then-stays-clause-passed : goal.returns-then-stays-clause-passed
 returns-then-stays-clause-passed g c =
-    subst (λ (v : View). AllPassed c.args.revocation.now v (slots_of c.args.work.now.ended.ends) c.stays.new.asked) c.in-Some.ensures.same c.stays.ensures.passed
+    c.requires.passed
 
 pub returns-in_default-option_holder-clause-passed : goal.returns-in_default-option_holder-clause-passed
 returns-in_default-option_holder-clause-passed g c =
     let view = g.V.Records.shown c.args.view.now in
-    let before = subst (λ (v : View). AllPassed c.args.revocation.now v (slots_of c.args.work.now.ended.ends) c.stays.new.asked) c.in-Some.ensures.same c.stays.ensures.passed in
-    passed_ended c.args.revocation.now view (slots_of c.args.work.now.ended.ends) (slots_of c.push.new.self.ends) c.args.slot c.stays.new.asked
+    let before = c.requires.passed in
+    passed_ended c.args.revocation.now view (slots_of c.args.work.now.ended.ends) (slots_of c.push.new.self.ends) c.args.slot c.args.work.now.lost
     (end_more c.args.work.now.ended.ends c.push.new.self.ends (record { slot = c.args.slot; place = c.args.revocation.now.place }) c.in_ok-push.ensures.ends) before
 
 pub returns-in_ok-lose-clause-ends : goal.returns-in_ok-lose-clause-ends
@@ -114,11 +114,11 @@ returns-in_default-option_holder-clause-ends g c =
 pub lose-requires : goal.lose-requires
 lose-requires g c =
     let seen = g.V.Records.shown c.stays.new.view in
-    let before = subst (λ (v : View). AllPassed c.args.revocation.now v (slots_of c.args.work.now.ended.ends) c.stays.new.asked) (sym c.if-stays.ensures.same) c.stays.ensures.passed in
-    passed_ended c.args.revocation.now seen (slots_of c.args.work.now.ended.ends) (slots_of c.push.new.self.ends) c.args.slot c.stays.new.asked
+    let before = subst (λ (v : View). AllPassed c.args.revocation.now v (slots_of c.args.work.now.ended.ends) c.args.work.now.lost) (sym (c.if-stays.ensures.same ∙ c.in-Some.ensures.same)) c.requires.passed in
+    passed_ended c.args.revocation.now seen (slots_of c.args.work.now.ended.ends) (slots_of c.push.new.self.ends) c.args.slot c.args.work.now.lost
     (end_more c.args.work.now.ended.ends c.push.new.self.ends (record { slot = c.args.slot; place = c.args.revocation.now.place }) c.in_ok-push.ensures.ends) before
 
 pub returns-in_ok-lose-clause-passed : goal.returns-in_ok-lose-clause-passed
 returns-in_ok-lose-clause-passed g c =
-    subst (λ (done : Ends). AllPassed c.args.revocation.now (g.V.Records.shown c.args.view.now) (slots_of done.ends) c.lose.new.work.asked) (sym c.lose.ensures.ended)
-    (subst (λ (v : View). AllPassed c.args.revocation.now v (slots_of c.push.new.self.ends) c.lose.new.work.asked) (c.if-stays.ensures.same ∙ c.in-Some.ensures.same) c.in_ok-lose.ensures.passed)
+    subst (λ (done : Ends). AllPassed c.args.revocation.now (g.V.Records.shown c.args.view.now) (slots_of done.ends) c.lose.new.work.lost) (sym c.lose.ensures.ended)
+    (subst (λ (v : View). AllPassed c.args.revocation.now v (slots_of c.push.new.self.ends) c.lose.new.work.lost) (c.if-stays.ensures.same ∙ c.in-Some.ensures.same) c.in_ok-lose.ensures.passed)

@@ -1,20 +1,18 @@
-use Rattle.std.proofs.Common.{◌≡◌, ◌<◌, ◌≤◌, not, true, length, sym, ◌∙◌, ap, subst, arith, inl, inr}
+use Rattle.std.proofs.Common.{◌≡◌, ◌<◌, ◌≤◌, not, true, length, ◌∙◌, ap, subst, arith, inl, inr}
 use Rattle.std.specs.Prelude.{◌⊎◌}
 use Rattle.std.proofs.lemmas.Bool.{and_parts, cases_lt}
 use Rattle.grants.specs.Pass.{concerned}
-use Rattle.grants.specs.Work.{ArePassed, bears, slots_of}
+use Rattle.grants.specs.Work.{bears, slots_of}
 use Rattle.grants_base.specs.Index.{is_one_of}
 use Rattle.grants_base.specs.View.{View, slot_at}
 use Rattle.grants.proofs.Asked.{not_false, nothing_past}
-use Rattle.grants.proofs.Asking.{passed_put, passed_start}
 use Rattle.grants.proofs.cascade.lose.Goals as goal
 
 pub first_bearer-first-requires-clause-passed : goal.first_bearer-first-requires-clause-passed
 first_bearer-first-requires-clause-passed g c =
     let view = g.V.Records.shown c.args.view.now in
     let ended = slots_of c.args.work.now.ended.ends in
-    subst (ArePassed c.args.revocation.now view ended c.args.holder.now.user c.args.holder.now.kind) (sym c.passed_by-passed.ensures)
-    (passed_start c.args.revocation.now view ended c.args.work.now.asked c.args.holder.now.user c.args.holder.now.kind c.requires)
+    c.passed_by-passed.ensures c.args.revocation.now view ended c.requires
 
 pub returns-clause-found : goal.returns-clause-found
 returns-clause-found g c = λ j grant from is by kind.
@@ -36,8 +34,7 @@ returns-clause-found g c = λ j grant from is by kind.
 
 pub returns-clause-passed : goal.returns-clause-passed
 returns-clause-passed g c =
-    passed_put c.args.revocation.now (g.V.Records.shown c.args.view.now) (slots_of c.args.work.now.ended.ends) c.args.work.now.asked c.insert.new.self c.args.holder.now.user c.first_bearer-first.result c.args.holder.now.kind
-    c.key.result c.key.ensures c.in_ok-insert.ensures.updates.0 c.first_bearer-first.ensures.passed c.requires
+    c.in_ok-put.ensures c.args.revocation.now (g.V.Records.shown c.args.view.now) (slots_of c.args.work.now.ended.ends) c.first_bearer-first.ensures.passed c.requires
 
 pub returns-clause-within : goal.returns-clause-within
 returns-clause-within g c = λ j is.
