@@ -16,7 +16,7 @@ use Rattle.model_base.proofs.Replay.{by_cases}
 use Rattle.grants_base.specs.Book.{Entries, lies_below, slot_below, view_of}
 use Rattle.grants_base.specs.Force.{end_if, gives_to, greatest_end, is_in_force, later_of}
 use Rattle.grants_base.specs.InForce.{IsNextInForce, ShowsNextInForce}
-use Rattle.grants_base.specs.Index.{IsFirst}
+use Rattle.grants_base.specs.Index.{IsFirst, IsOnly}
 use Rattle.model_base.specs.Ranks.{kind_code}
 use Rattle.grants_base.specs.View.{View, flatten, slot_at, slot_gives}
 use Rattle.grants_base.specs.declared.force.NextBy.{NextBy}
@@ -160,6 +160,12 @@ module _ (book : Entries) (place : ℕ) (below : (slot : ℕ) (entry : Record) �
       (λ k. ap (is_in_force passes) (sym (ap (λ (slots : List (Option Record)). flatten (slice_get slots k)) whole ∙ at-whole book.records k)))
       from found is
 
+  pub shows_only : (passes : Grant → Bool) (slot : ℕ) → IsOnly (λ k. is_in_force passes (slice_get book.records k)) slot
+      → IsOnly (λ k. is_in_force passes (slot_at (view_of book place) k)) slot
+  shows_only passes slot only k other =
+      let whole = slots-whole book.records below in
+      ap (is_in_force passes) (ap (λ (slots : List (Option Record)). flatten (slice_get slots k)) whole ∙ at-whole book.records k) ∙ only k other
+
   pub shows_next : (passes : Grant → Bool) (from : ℕ) (next : NextInForce) → IsNextInForce passes book.records from next → ShowsNextInForce passes (view_of book place) from next
   shows_next passes from next is =
       let whole = slots-whole book.records below in
@@ -180,6 +186,12 @@ pub shows_by : (book : Entries) (place : ℕ) (below : (slot : ℕ) (entry : Rec
     → IfSome found (λ next. IsFirst (λ k. is_in_force passes (slot_at (view_of book place) k)) from next.slot)
 shows_by book place below passes from None is = tt
 shows_by book place below passes from (Some next) is = shows_slot book place below passes from next.slot is
+
+pub shows_one : (book : Entries) (place : ℕ) (below : (slot : ℕ) (entry : Record) → slice_get book.records slot ≡ Some entry → lies_below place entry ≡ true)
+    (passes : Grant → Bool) (found : Option ℕ) → IfSome found (IsOnly (λ k. is_in_force passes (slice_get book.records k)))
+    → IfSome found (IsOnly (λ k. is_in_force passes (slot_at (view_of book place) k)))
+shows_one book place below passes None is = tt
+shows_one book place below passes (Some slot) is = shows_only book place below passes slot is
 
 -- where one is found it passes
 pub one_found : (test : ℕ → Bool) (from : ℕ) (found : Option ℕ) → IsFirst test from found → is_some found ≡ true → (k : ℕ) × (test k ≡ true)

@@ -1,6 +1,6 @@
 -- The next slot that may have a grant that a revocation names.
 use Rattle.std.proofs.Common.{◌≡◌, ℕ, ◌&&◌, ◌||◌, Bool, true, false, List, [], ◌∷◌, ◌++◌, Option, Some, None, is_none, refl, sym, ◌∙◌, subst, eq-eqb, inl, inr}
-use Rattle.std.specs.Prelude.{◌==◌, ◌⊎◌}
+use Rattle.std.specs.Prelude.{◌==◌, ◌≢◌, ◌⊎◌}
 use Rattle.std.specs.List.{list_any}
 use Rattle.std.proofs.lemmas.Bool.{true≢false, and_parts, eqb-true, or_cases}
 use Rattle.std.proofs.lemmas.List.Folds.{list_any-append}
@@ -17,9 +17,9 @@ use Rattle.grants_base.specs.Force.{gives_by, is_in_force}
 use Rattle.grants_base.specs.Index.{AreAsked, IsFirst, IsNext, is_to, passes_at}
 use Rattle.grants_base.specs.View.{View, slot_at}
 use Rattle.grants.specs.Pass.{concerned}
-use Rattle.grants.specs.Work.{IsNextNamed}
+use Rattle.grants.specs.Work.{IsNextNamed, IsOnlySlot}
 use Rattle.grants.proofs.Asked.{about_kind, candidate-skipped, found_within, named-skipped, same-grantee}
-use Rattle.grants.proofs.Candidates.{in_force-within}
+use Rattle.grants.proofs.Candidates.{closed_but, in_force-within}
 
 -- a kind is one of the four
 pub by_kind : (P : Type 0) (kind : Kind) → (kind ≡ Read → P) → (kind ≡ Insert → P) → (kind ≡ Update → P) → (kind ≡ Delete → P) → P
@@ -101,3 +101,13 @@ module _ (view : View) (revocation : Revocation) (grantee : Grantee) (kind : Kin
       there = (some.0, found_within view asked are (is_to grantee kind revocation.table) i some.1);
       passed = λ k grant low before. skipped k grant (some.2 k low before);
     }
+
+-- where one slot alone has a grant in force, it is that of each grant that is named
+pub named_only : (view : View) (revocation : Revocation) (grantee : Grantee) (kind : Kind) (slot : ℕ) → IsOnlySlot revocation grantee kind view slot → (j : ℕ) (grant : Grant)
+    → concerned (slot_at view j) revocation ≡ Some grant → grant.grantee ≡ grantee → grant.kind ≡ kind → names revocation grant ≡ true → j ≡ slot
+named_only view revocation grantee kind slot only j grant is to same named =
+    by_cases (j == slot)
+    (λ one. eqb-true j slot one)
+    (λ apart.
+    let other : j ≢ slot = λ one. true≢false (sym (eq-eqb j slot one) ∙ apart) in
+    absurd (named-skipped view revocation grantee kind j grant (closed_but revocation grantee kind false view slot only j other) is to same named))

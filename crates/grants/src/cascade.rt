@@ -7,7 +7,7 @@ ghost use Rattle.model_base.specs.declared.deed.Deed.{Deed};
 ghost use Rattle.model_base.specs.declared.deed.Grant.{Grant};
 ghost use Rattle.grants.specs.Pass.{concerned, keeps, outlasts};
 ghost use Rattle.grants_base.specs.Index.{is_one_of};
-ghost use Rattle.grants.specs.Work.{AllPassed, AreDue, AreDueOrBorne, AreEnds, ArePassed, IsNextCandidate, IsNextNamed, bears, ended_in_all, slots_of, staying};
+ghost use Rattle.grants.specs.Work.{AllPassed, AreDue, AreDueOrBorne, AreEnds, ArePassed, IsNextCandidate, IsNextNamed, IsOnlyBearer, IsOnlySlot, bears, ended_in_all, slots_of, staying};
 ghost use Rattle.grants_base.specs.View.{ShowsDeeds, slot_at};
 
 use crate::ended::Ended;
@@ -108,8 +108,7 @@ fn next_named<V: Records>(
 
 /// The first slot below another that gives the holder the option of its kind and hasn't ended, where none below `start` does. It is not
 /// below the other where there is none.
-#[inline(always)]
-fn first_bearer<V: Records>(
+fn next_bearer<V: Records>(
     view: &mut V,
     revocation: &Revocation,
     ended: &Ended,
@@ -138,6 +137,57 @@ fn first_bearer<V: Records>(
         }
     }
     from
+}
+
+/// The same where no slot but one has a grant of the kind in force to the holder.
+fn only_bearer<V: Records>(
+    view: &mut V,
+    revocation: &Revocation,
+    ended: &Ended,
+    holder: &KindHolder,
+    slot: usize,
+    below: usize,
+) -> usize
+    requires within { below ≤ length (V.shown view.old).slots }
+    requires only { IsOnlyBearer revocation.now holder.now.user holder.now.kind (V.shown view.old) slot }
+    ensures passed { ArePassed revocation.now (V.shown view.old) (slots_of ended.now.ends) holder.now.user holder.now.kind result }
+    ensures found { result < below → (bears revocation.now holder.now.user holder.now.kind (slot_at (V.shown view.old) result)
+        && not (is_one_of (slots_of ended.now.ends) result)) ≡ true }
+    ensures same { V.shown view.new ≡ V.shown view.old }
+{
+    if slot < below && stands(view, slot, revocation, ended, holder) {
+        slot
+    } else {
+        below
+    }
+}
+
+/// The same as `next_bearer`. It looks once where the view knows the only slot with such a grant in force.
+#[inline(always)]
+fn first_bearer<V: Records>(
+    view: &mut V,
+    revocation: &Revocation,
+    ended: &Ended,
+    holder: &KindHolder,
+    start: usize,
+    below: usize,
+) -> usize
+    requires within { below ≤ length (V.shown view.old).slots }
+    requires passed { ArePassed revocation.now (V.shown view.old) (slots_of ended.now.ends) holder.now.user holder.now.kind start }
+    ensures passed { ArePassed revocation.now (V.shown view.old) (slots_of ended.now.ends) holder.now.user holder.now.kind result }
+    ensures found { result < below → (bears revocation.now holder.now.user holder.now.kind (slot_at (V.shown view.old) result)
+        && not (is_one_of (slots_of ended.now.ends) result)) ≡ true }
+    ensures same { V.shown view.new ≡ V.shown view.old }
+{
+    let only = view.only_in_force(Holder {
+        grantee: Grantee::User(holder.user),
+        kind: holder.kind,
+        table: revocation.table,
+    });
+    match only {
+        Some(slot) => only_bearer(view, revocation, ended, holder, slot, below),
+        None => next_bearer(view, revocation, ended, holder, start, below),
+    }
 }
 
 /// Whether the holder keeps the option of its kind by a slot below this one that hasn't ended. For one who lost it, it goes on where
@@ -211,6 +261,60 @@ fn is_named<V: Records>(view: &mut V, i: usize, revocation: &Revocation) -> bool
 }
 
 /// Adds the slots whose grants are to the grantee, of the kind, and the revocation names.
+fn add_each_named<V: Records>(
+    view: &mut V,
+    revocation: &Revocation,
+    grantee: &Grantee,
+    kind: Kind,
+    due: &mut SlotSet,
+) -> Result<(), AllocError>
+    ensures found { OnOk result ((j : ℕ) (grant : Grant) → concerned (slot_at (V.shown view.old) j) revocation.now ≡ Some grant
+        → grant.grantee ≡ grantee.now → grant.kind ≡ kind → names revocation.now grant ≡ true → is_one_of due.new j ≡ true) }
+    ensures kept { OnOk result ((j : ℕ) → is_one_of due.old j ≡ true → is_one_of due.new j ≡ true) }
+    ensures within { OnOk result ((j : ℕ) → is_one_of due.new j ≡ true
+        → (is_one_of due.old j ≡ true) ⊎ (j < length (V.shown view.old).slots)) }
+    ensures same { V.shown view.new ≡ V.shown view.old }
+{
+    let end = view.slots();
+    let mut from = 0;
+    while from < end {
+        match next_named(view, revocation, grantee, kind, from) {
+            Some(i) => {
+                if is_named(view, i, revocation) {
+                    due.insert(i)?;
+                }
+                from = i + 1;
+            }
+            None => return Ok(()),
+        }
+    }
+    Ok(())
+}
+
+/// The same where no slot but one has a grant of the kind in force to the grantee.
+fn add_only_named<V: Records>(
+    view: &mut V,
+    revocation: &Revocation,
+    grantee: &Grantee,
+    kind: Kind,
+    slot: usize,
+    due: &mut SlotSet,
+) -> Result<(), AllocError>
+    requires only { IsOnlySlot revocation.now grantee.now kind (V.shown view.old) slot }
+    ensures found { OnOk result ((j : ℕ) (grant : Grant) → concerned (slot_at (V.shown view.old) j) revocation.now ≡ Some grant
+        → grant.grantee ≡ grantee.now → grant.kind ≡ kind → names revocation.now grant ≡ true → is_one_of due.new j ≡ true) }
+    ensures kept { OnOk result ((j : ℕ) → is_one_of due.old j ≡ true → is_one_of due.new j ≡ true) }
+    ensures within { OnOk result ((j : ℕ) → is_one_of due.new j ≡ true
+        → (is_one_of due.old j ≡ true) ⊎ (j < length (V.shown view.old).slots)) }
+    ensures same { V.shown view.new ≡ V.shown view.old }
+{
+    if slot < view.slots() && is_named(view, slot, revocation) {
+        due.insert(slot)?;
+    }
+    Ok(())
+}
+
+/// The same as `add_each_named`. It looks once where the view knows the only slot with such a grant in force.
 #[inline(always)]
 fn add_named<V: Records>(
     view: &mut V,
@@ -229,20 +333,15 @@ fn add_named<V: Records>(
     if !revocation.kinds.contains(kind) {
         return Ok(());
     }
-    let end = view.slots();
-    let mut from = 0;
-    while from < end {
-        match next_named(view, revocation, grantee, kind, from) {
-            Some(i) => {
-                if is_named(view, i, revocation) {
-                    due.insert(i)?;
-                }
-                from = i + 1;
-            }
-            None => return Ok(()),
-        }
+    let only = view.only_in_force(Holder {
+        grantee: *grantee,
+        kind,
+        table: revocation.table,
+    });
+    match only {
+        Some(slot) => add_only_named(view, revocation, grantee, kind, slot, due),
+        None => add_each_named(view, revocation, grantee, kind, due),
     }
-    Ok(())
 }
 
 /// Adds the slots whose grants are to the grantee and the revocation names.

@@ -109,6 +109,13 @@ impl<B: RecordBook> Records for ViewOf<'_, B> {
         self.next_in_force(holder, option, 0)
     }
 
+    fn only_in_force(&mut self, holder: Holder) -> Option<usize> {
+        match self.book.indexed_below(self.place) {
+            Some(records) => records.only_in_force(holder),
+            None => None,
+        }
+    }
+
     fn next_in_force_by(&mut self, user: User, holder: Holder, from: usize) -> Option<NextBy> {
         match self.book.indexed_below(self.place) {
             Some(records) => records.next_in_force_by(user, holder, from),

@@ -1,5 +1,5 @@
 -- The grants that the slots of a view ask for, made or not, and how those to one grantee or by one user are found among them.
-use Rattle.std.specs.Prelude.{◌≡◌, ◌==◌, ◌<◌, ◌≤◌, ◌&&◌, ℕ, Bool, true, false, Option, Some, None, List, length, slice_get}
+use Rattle.std.specs.Prelude.{◌≡◌, ◌≢◌, ◌==◌, ◌<◌, ◌≤◌, ◌&&◌, ℕ, Bool, true, false, Option, Some, None, List, length, slice_get}
 use Rattle.std.specs.List.{list_any}
 use Rattle.std.specs.Option.{option_map_or}
 use Rattle.model_base.specs.declared.deed.Kind.{Kind}
@@ -32,6 +32,10 @@ passes_at passes asked i = option_map_or passes (slice_get asked i) false
 abbrev pub IsFirst : (ℕ → Bool) → ℕ → Option ℕ → Type 0
 IsFirst is_found from None = (k : ℕ) → from ≤ k → is_found k ≡ false
 IsFirst is_found from (Some i) = (from ≤ i) × (is_found i ≡ true) × ((k : ℕ) → from ≤ k → k < i → is_found k ≡ false)
+
+-- no slot but this one is found
+abbrev pub IsOnly : (ℕ → Bool) → ℕ → Type 0
+IsOnly is_found slot = (k : ℕ) → k ≢ slot → is_found k ≡ false
 
 -- the least slot at or above this one whose grant passes, or none
 abbrev pub IsNext : (Grant → Bool) → List Grant → ℕ → Option ℕ → Type 0

@@ -1,9 +1,9 @@
 //! What is in force of a privilege, and when it was lost last.
 
-ghost use Rattle.std.specs.Prelude.{◌≡◌, true, OnOk};
+ghost use Rattle.std.specs.Prelude.{◌≡◌, true, IfSome, OnOk};
 ghost use Rattle.grants_base.specs.Force.{HasGainedGrant, HasLostGrant, IsGranted, IsWithdrawn, force_of, held_by_one, held_by_others, later_of, no_grant_slots, privilege_of, slots_given};
 ghost use Rattle.grants_base.specs.GrantorSet.{has_by};
-ghost use Rattle.grants_base.specs.Index.{IsFirst, is_one_of};
+ghost use Rattle.grants_base.specs.Index.{IsFirst, IsOnly, is_one_of};
 
 use crate::grantor_set::{Granted, GrantorSet, lesser};
 use crate::slot_set::SlotSet;
@@ -272,6 +272,16 @@ impl Privilege {
             self.lost
         };
         NextInForce { slot, lost }
+    }
+
+    /// The slot of the only grant, where it is known that there is one at most.
+    pub fn only(&self) -> Option<usize>
+        ensures { IfSome result (IsOnly (is_one_of self.now.plain.slots)) }
+    {
+        match (self.one, &self.others) {
+            (Some(given), None) => Some(given.slot),
+            _ => None,
+        }
     }
 
     /// The next slot at or above this one of a grant by the user.

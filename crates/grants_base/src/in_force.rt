@@ -6,7 +6,7 @@ ghost use Rattle.grants_base.specs.Book.{end_slot, unended};
 ghost use Rattle.grants_base.specs.Force.{IsGranted, IsWithdrawn, force_of};
 ghost use Rattle.grants_base.specs.GrantorSet.{has_by};
 ghost use Rattle.grants_base.specs.InForce.{IsChanged, KeepsInForce, made_under, privilege_under, side_under};
-ghost use Rattle.grants_base.specs.Index.{IsFirst, is_one_of};
+ghost use Rattle.grants_base.specs.Index.{IsFirst, IsOnly, is_one_of};
 ghost use Rattle.grants_base.specs.Sides.{AreAscending, IsEmpty, IsPopped, IsPushed, IsSame, to_side};
 ghost use Rattle.grants_base.specs.declared.index.HolderKey.{HolderKey};
 
@@ -155,6 +155,20 @@ impl GranteeIndex {
                 slot: None,
                 lost: None,
             }),
+        }
+    }
+
+    /// The slot of the only grant in force under a side, where it is known that there is one at most. None where the index isn't whole.
+    pub fn only(&self, key: &HolderKey) -> Option<usize>
+        ensures whole { IfSome result (λ _. self.now.is_whole ≡ true) }
+        ensures slot { IfSome result (IsOnly (is_one_of (privilege_under self.now key.now).plain.slots)) }
+    {
+        if !self.is_whole {
+            return None;
+        }
+        match self.sides.get(key) {
+            Some(side) => side.only(),
+            None => None,
         }
     }
 

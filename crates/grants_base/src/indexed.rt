@@ -1,13 +1,13 @@
 //! Records that are found by their grantees and by their grantors.
 
-ghost use Rattle.std.specs.Prelude.{◌+◌, ◌-◌, ◌≡◌, ◌<◌, ◌≤◌, ◌++◌, ◌∷◌, [], true, ℕ, All, IfSome, IsSomeAnd, List, OnErr, OnOk, Some, length, map, slice_get, take};
+ghost use Rattle.std.specs.Prelude.{◌+◌, ◌-◌, ◌≡◌, ◌<◌, ◌≤◌, ◌++◌, ◌∷◌, [], false, true, ℕ, All, IfSome, IsSomeAnd, List, OnErr, OnOk, Some, length, map, slice_get, take};
 ghost use Rattle.model_base.specs.Records.{recorded};
 ghost use Rattle.grants_base.specs.Book.{end_slot, end_slots, lies_below, reopened, unended};
 ghost use Rattle.grants_base.specs.Force.{gives_by, gives_to, is_in_force};
 ghost use Rattle.grants_base.specs.InForce.{IsNextInForce, KeepsInForce, made_under};
 ghost use Rattle.model_base.specs.Laws.{IsRising};
 ghost use Rattle.model_base.specs.declared.deed.Record.{Record};
-ghost use Rattle.grants_base.specs.Index.{IsFirst, IsNext, is_by, is_to};
+ghost use Rattle.grants_base.specs.Index.{IsFirst, IsNext, IsOnly, is_by, is_to};
 ghost use Rattle.grants_base.specs.Marks.{EndBy};
 ghost use Rattle.grants_base.specs.Sides.{IsPushed, IsSame, by_side, side_by, slots_under, to_side};
 ghost use Rattle.grants_base.specs.declared.entries.End.{End};
@@ -287,6 +287,15 @@ impl IndexedRecords {
             IsNextInForce (gives_to holder.grantee holder.kind holder.table option) self.now from next) }
     {
         self.in_force.next(&side_of(holder), option, from)
+    }
+
+    /// A slot such that no other has a grant in force to the holder's grantee, of its kind on its table. None where that isn't known, as in
+    /// `next_in_force`, or where several may have one.
+    pub fn only_in_force(&self, holder: Holder) -> Option<usize>
+        ensures { IfSome result (λ only. IsOnly (λ k.
+            is_in_force (gives_to holder.grantee holder.kind holder.table false) (slice_get self.now k)) only) }
+    {
+        self.in_force.only(&side_of(holder))
     }
 
     /// The least slot at or above this one of a grant in force by the user to the holder's grantee, of its kind on its table. It takes a

@@ -1,10 +1,10 @@
 //! Views of the records of grants at a place.
 
-ghost use Rattle.std.specs.Prelude.{◌≡◌, ◌<◌, List, Some, IfSome, IsSome, is_some, length};
+ghost use Rattle.std.specs.Prelude.{◌≡◌, ◌<◌, List, Some, IfSome, IsSome, false, is_some, length};
 ghost use Rattle.model_base.specs.declared.deed.Grant.{Grant};
-ghost use Rattle.grants_base.specs.Force.{gives_by, gives_to};
+ghost use Rattle.grants_base.specs.Force.{gives_by, gives_to, is_in_force};
 ghost use Rattle.grants_base.specs.InForce.{ShowsNextInForce, ShowsNextSlot};
-ghost use Rattle.grants_base.specs.Index.{AreAsked, IsNext, is_about, is_by, is_to};
+ghost use Rattle.grants_base.specs.Index.{AreAsked, IsNext, IsOnly, is_about, is_by, is_to};
 ghost use Rattle.grants_base.specs.View.{View, IsLawful, end_in, grant_in, slot_at};
 
 use crate::force::{NextBy, NextInForce};
@@ -111,6 +111,18 @@ pub trait Records {
             Some(next) => Some(NextBy { slot: next.slot }),
             None => None,
         }
+    }
+
+    /// A slot such that no other has a grant in force to the holder's grantee, of its kind on its table. None where that isn't known, or
+    /// where several may have one. It doesn't allocate.
+    fn only_in_force(&mut self, holder: Holder) -> Option<usize>
+        ensures only { IfSome result (λ only. IsOnly (λ k.
+            is_in_force (gives_to holder.grantee holder.kind holder.table false) (slot_at (shown self.old) k)) only) }
+        ensures same { shown self.new ≡ shown self.old }
+        ensures still { asked self.new ≡ asked self.old }
+    {
+        let _asked = holder;
+        None
     }
 
     /// The least slot at or above this one of a grant in force by this user to the holder's grantee, of its kind on its table. None where

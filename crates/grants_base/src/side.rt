@@ -1,9 +1,9 @@
 //! What is kept under a grantee, kind and table.
 
-ghost use Rattle.std.specs.Prelude.{◌-◌, ◌≡◌, ◌++◌, ◌∷◌, [], true, Ok, OnErr, OnOk, length, take};
+ghost use Rattle.std.specs.Prelude.{◌-◌, ◌≡◌, ◌++◌, ◌∷◌, [], true, IfSome, Ok, OnErr, OnOk, length, take};
 ghost use Rattle.grants_base.specs.Force.{IsGranted, IsWithdrawn, force_of};
 ghost use Rattle.grants_base.specs.GrantorSet.{has_by};
-ghost use Rattle.grants_base.specs.Index.{IsFirst, is_one_of};
+ghost use Rattle.grants_base.specs.Index.{IsFirst, IsOnly, is_one_of};
 ghost use Rattle.grants_base.specs.Kept.{IsWide, lost_with_option, no_side, several_of, several_of_one, standing};
 ghost use Rattle.grants_base.specs.Sides.{AreAscending};
 
@@ -108,6 +108,14 @@ impl Only {
         NextBy {
             slot: slot_by(self.standing(), grantor, from),
         }
+    }
+
+    /// Its slot.
+    #[tactic(auto, using(crate::proofs::KeptLaws::only_standing))]
+    fn slot(&self) -> usize
+        ensures { IsOnly (is_one_of (several_of_one self.now).privilege.plain.slots) result }
+    {
+        self.given.slot
     }
 
     /// Its slot, if that isn't below another.
@@ -244,6 +252,17 @@ impl Side {
             },
             Kept::One(only) => only.next(option, from),
             Kept::Many(several) => several.privilege.next(option, from),
+        }
+    }
+
+    /// The slot of the only grant in force, where it is known that there is one at most.
+    pub fn only(&self) -> Option<usize>
+        ensures { IfSome result (IsOnly (is_one_of self.now.privilege.plain.slots)) }
+    {
+        match &self.kept {
+            Kept::Nothing => None,
+            Kept::One(only) => Some(only.slot()),
+            Kept::Many(several) => several.privilege.only(),
         }
     }
 

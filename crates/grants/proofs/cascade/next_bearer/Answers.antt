@@ -5,7 +5,7 @@ use Rattle.grants_base.specs.Index.{is_one_of}
 use Rattle.grants.specs.Work.{IsNextCandidate, bears, slots_of}
 use Rattle.grants_base.specs.View.{View, slot_at}
 use Rattle.grants.proofs.Asked.{none_until, stood}
-use Rattle.grants.proofs.cascade.first_bearer.Goals as goal
+use Rattle.grants.proofs.cascade.next_bearer.Goals as goal
 
 pub returns-then-stands-clause-passed : goal.returns-then-stands-clause-passed
 returns-then-stands-clause-passed g c =

@@ -9,8 +9,8 @@ use Rattle.grants_base.specs.Index.{is_one_of}
 use Rattle.grants_base.specs.View.{View, slot_at}
 use Rattle.grants.proofs.Worklist.{slot_more}
 use Rattle.grants.proofs.Asked.{HaveNamed, named_step, nothing_past, or_first}
-use Rattle.grants.proofs.cascade.add_named.Goals as goal
-use Rattle.grants.proofs.cascade.add_named.Goals.{then-is_named+in_ok-insert-in-Some, else-is_named}
+use Rattle.grants.proofs.cascade.add_each_named.Goals as goal
+use Rattle.grants.proofs.cascade.add_each_named.Goals.{then-is_named+in_ok-insert-in-Some, else-is_named}
 
 pub loop-from-preserved : goal.loop-from-preserved
 loop-from-preserved g c =

@@ -5,7 +5,7 @@ use Rattle.model_base.specs.Privileges.{names}
 use Rattle.grants.specs.Pass.{concerned}
 use Rattle.grants_base.specs.Index.{is_one_of}
 use Rattle.grants_base.specs.View.{slot_at}
-use Rattle.grants.proofs.cascade.add_named.Given as goal
+use Rattle.grants.proofs.cascade.add_each_named.Given as goal
 
 -- the slots so far of the kind that the revocation names are due, with all that were
 abbrev pub invariant-loop-from : goal.invariant-loop-from

@@ -2,7 +2,7 @@ use Rattle.std.proofs.Common.{◌-◌, ◌≡◌, ◌<◌, ℕ, false}
 use Rattle.grants_base.specs.Index.{is_one_of}
 use Rattle.grants.specs.Work.{bears, slots_of}
 use Rattle.grants_base.specs.View.{slot_at}
-use Rattle.grants.proofs.cascade.first_bearer.Given as goal
+use Rattle.grants.proofs.cascade.next_bearer.Given as goal
 
 -- no slot so far that hasn't ended gives the user the option
 abbrev pub invariant-loop-from : goal.invariant-loop-from
