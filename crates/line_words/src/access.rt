@@ -67,7 +67,8 @@ fn kinds_of(word: &[u8]) -> Option<Kinds>
 }
 
 /// The access that a word spells.
-#[inline(always)]
+#[cold]
+#[inline(never)]
 pub fn access_of<'a>(word: &'a [u8]) -> Result<RawAccess<'a>, LineFault>
     ensures ok { IfOk result (λ a. (word.now ≡ access_word a) × IsAccess a) }
     ensures fits { OnOk result (access_fault word.now ≡ None) }

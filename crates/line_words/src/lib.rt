@@ -22,4 +22,4 @@ pub use name::{Name, has_name_form};
 pub use number::{plain_value, whole_value};
 pub use piece_list::Pieces;
 pub use step_name::StepName;
-pub use word_list::Words;
+pub use word_list::{Words, same_text};

@@ -42,6 +42,8 @@ fn natural(word: &[u8]) -> Option<u64>
 }
 
 /// The number below 2^32 that a word spells.
+#[cold]
+#[inline(never)]
 pub fn plain_value(word: &[u8]) -> Option<u32>
     ensures { result ≡ plain word.now }
 {
@@ -71,6 +73,8 @@ fn negative_value(digits: &[u8]) -> Option<i64>
 }
 
 /// The number of 64 bits that a word spells.
+#[cold]
+#[inline(never)]
 pub fn whole_value(word: &[u8]) -> Option<i64>
     ensures { result ≡ signed_of word.now }
 {

@@ -23,6 +23,8 @@ impl StepName {
     ghost use Rattle.line_words.specs.StepWords.{step_name, step_word};
 
     /// The step that a word names.
+    #[cold]
+    #[inline(never)]
     #[tactic(auto, using(crate::proofs::StepLetters::named_insert, crate::proofs::StepLetters::named_delete))]
     pub fn of(word: &[u8]) -> Option<StepName>
         ensures { result ≡ step_name word.now }

@@ -63,6 +63,15 @@ fn begins_with_few(text: &[u8], word: &[u8]) -> bool
     text[last] == word[last] && text[middle] == word[middle] && text[0] == word[0]
 }
 
+/// Whether two texts are the same, whatever their length.
+#[cold]
+#[inline(never)]
+fn is_same(text: &[u8], other: &[u8]) -> bool
+    ensures { OnTrue result (text.now ≡ other.now) }
+{
+    text == other
+}
+
 /// Whether a text begins with a word. One of four to eight bytes, as most names are, is compared by its first four and its last four.
 #[inline(always)]
 fn begins_with(text: &[u8], word: &[u8]) -> bool
@@ -71,12 +80,20 @@ fn begins_with(text: &[u8], word: &[u8]) -> bool
 {
     let len = word.len();
     if len == 0 || len > 8 {
-        return &text[..len] == word;
+        return is_same(&text[..len], word);
     }
     if len < 4 {
         return begins_with_few(text, word);
     }
     same_four(text, word, 0) && same_four(text, word, len - 4)
+}
+
+/// Whether two texts are the same, compared as by `begins_with`. For names this is faster than `==`.
+#[inline(always)]
+pub fn same_text(text: &[u8], other: &[u8]) -> bool
+    ensures { OnTrue result (text.now ≡ other.now) }
+{
+    text.len() == other.len() && begins_with(text, other)
 }
 
 /// Whether a name is at an index of a line, with a colon after it.
@@ -138,6 +155,7 @@ fn digits_from(line: &[u8], start: usize) -> (u32, usize)
 }
 
 /// The piece between bytes of a value at an index of a text, and the index of the piece after it. None past the text's end.
+#[cold]
 #[inline(never)]
 pub(crate) fn piece_at(text: &[u8], start: usize, value: u8) -> Option<(&[u8], usize)>
     ensures { MatchOption result (split_from value start text.now ≡ [])

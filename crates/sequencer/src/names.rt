@@ -5,6 +5,7 @@ ghost use Rattle.std.specs.Prelude.{◌<◌};
 use crate::refused::Refused;
 use crate::testing::test_parties;
 use indexmap::IndexSet;
+use line_words::same_text;
 use log_text::{RawGrantee, RawGrantees};
 use model_base::{Grantee, Grantees, HashSeed, MOST_NAMES, User};
 use std::alloc::{AllocError, Global};
@@ -47,7 +48,8 @@ impl Model for NameTable {
 }
 
 impl NameTable {
-    ghost use Rattle.std.specs.Prelude.{◌≡◌, ◌<◌, ◌≤◌, ◌-◌, [], length, map, take, slice_get, Some, None, IfOk, IfErr, OnOk, OnErr, not, is_some, false, option_map};
+    ghost use Rattle.std.specs.Prelude.{◌≡◌, ◌<◌, ◌≤◌, ◌-◌, [], length, map, take, slice_get, Some, None, IfOk, IfErr, OnOk, OnErr, not, is_some, false, true, option_map};
+    ghost use Rattle.std.specs.Bool.{OnTrue};
     ghost use Rattle.sequencer.specs.Names.{is_known, known_number, number_of, with_name};
     ghost use Rattle.sequencer.specs.Catalog.{numbered_grantee, with_all_named, with_named};
     ghost use Rattle.sequencer.specs.Refusal.{IsRefusal, name_refusal, named_refusal, named_refusals, parties_refusal};
@@ -84,6 +86,7 @@ impl NameTable {
     }
 
     /// The number of a name, if it is there.
+    #[inline(never)]
     pub fn find(&self, name: &str) -> Option<u32>
         ensures number { result ≡ known_number self.now name.now }
         ensures known { is_some result ≡ is_known self.now name.now }
@@ -98,13 +101,23 @@ impl NameTable {
         ensures number { result ≡ known_number self.now name.now }
         ensures known { is_some result ≡ is_known self.now name.now }
     {
-        let names = self.names.as_slice();
-        if let Some(own) = names.get(near as usize) {
-            if own.as_str() == name {
-                return Some(near);
-            }
+        if self.is_name(near, name) {
+            return Some(near);
         }
         self.find(name)
+    }
+
+    /// Whether a name is that of a number.
+    #[inline(always)]
+    pub(crate) fn is_name(&self, number: u32, name: &str) -> bool
+        ensures number { OnTrue result (known_number self.now name.now ≡ Some number) }
+        ensures known { OnTrue result (is_known self.now name.now ≡ true) }
+        ensures within { OnTrue result (number < length self.now) }
+    {
+        match self.names.as_slice().get(number as usize) {
+            Some(own) => same_text(own.as_bytes(), name.as_bytes()),
+            None => false,
+        }
     }
 
     /// The name of this number.

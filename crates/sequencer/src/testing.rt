@@ -103,12 +103,26 @@ pub(crate) fn test_skip(steps: u32, later: usize) -> Result<(), Refused>
 
 impl Catalog {
     /// The table of a name that has to be known. The recent table is tried first, and the one that is returned is the recent one then.
+    #[inline(always)]
     pub(crate) fn known_table(&self, recent: &mut Table, name: &Name<'_>) -> Result<Table, Refused>
         ensures answer { IsAnswerOf result (refuse_unless (is_known self.now.tables name.now) Refused.UnknownTable)
             (number_of self.now.tables name.now) }
         ensures known { IfOk result (λ t. t < length self.now.tables) }
     {
-        match self.tables().find_near(recent.0, name.as_str()) {
+        if self.tables().is_name(recent.0, name.as_str()) {
+            return Ok(*recent);
+        }
+        self.other_table(recent, name)
+    }
+
+    /// The table of a name that has to be known, as `known_table`, where it isn't the recent one.
+    #[inline(never)]
+    fn other_table(&self, recent: &mut Table, name: &Name<'_>) -> Result<Table, Refused>
+        ensures answer { IsAnswerOf result (refuse_unless (is_known self.now.tables name.now) Refused.UnknownTable)
+            (number_of self.now.tables name.now) }
+        ensures known { IfOk result (λ t. t < length self.now.tables) }
+    {
+        match self.tables().find(name.as_str()) {
             Some(number) => {
                 *recent = Table(number);
                 Ok(Table(number))
@@ -129,6 +143,7 @@ impl Catalog {
     }
 
     /// The table of a column. It has to be a column of a known table.
+    #[inline(always)]
     pub(crate) fn table_with_column(
         &self,
         recent: &mut Table,
@@ -145,6 +160,7 @@ impl Catalog {
     }
 
     /// The table of a new row. The row has to have as many numbers as its table has columns.
+    #[inline(always)]
     pub(crate) fn table_of_width(
         &self,
         recent: &mut Table,

@@ -68,6 +68,7 @@ fn numbered_register(number: u32) -> Result<Register, LineFault>
 }
 
 /// The register that a word spells.
+#[inline(never)]
 #[tactic(auto, using(line_words::proofs::Plain::plain_some))]
 pub(crate) fn register_of(word: &[u8]) -> Result<Register, LineFault>
     ensures ok { IfOk result (λ n. (word.now ≡ decimal n) × (n < MOST_REGISTERS)) }

@@ -28,6 +28,7 @@ fn is_printable_text(line: &[u8]) -> bool
 }
 
 /// The fault of a line whose words have this one: a byte that isn't printable counts before it.
+#[cold]
 #[inline(never)]
 fn first_fault(version: Version, line: &[u8], fault: LineFault) -> LineFault
     requires short { length line.now ≤ MOST_LINE_BYTES }
