@@ -1,11 +1,13 @@
 //! The words of a line, one after another.
-ghost use Rattle.std.specs.Prelude.{◌≡◌, ◌≢◌, ◌+◌, ◌-◌, ◌<◌, ◌≤◌, ◌==◌, ◌^◌, ◌++◌, List, ℕ, [], ◌∷◌, codes, decimal, drop, false, not, true, length, slice_index_or, take, MatchBool, MatchOption};
+ghost use Rattle.std.specs.Prelude.{◌≡◌, ◌≢◌, ◌+◌, ◌-◌, ◌<◌, ◌≤◌, ◌==◌, ◌^◌, ◌++◌, List, ℕ, [], ◌∷◌, codes, decimal, drop, false, not, true, length, IsTrue, slice_index_or, take, MatchBool, MatchOption};
 ghost use Rattle.std.specs.Bool.{OnTrue};
+ghost use Rattle.std.specs.Fmt.{signed_decimal};
 ghost use Rattle.std.specs.List.{list_all, position_or_len, prefix_len};
 ghost use Rattle.std.specs.Str.Parse.{AllDigits, digits_value};
 ghost use Rattle.line_words.specs.Access.{IsAccess, access_word, letter_if};
 ghost use Rattle.line_words.specs.StepWords.{step_word};
 ghost use Rattle.line_words.specs.Words.{words, words_from, split_from, first_word, is_name, is_name_byte};
+ghost use Rattle.model_base.specs.Body.{fits_64_bits};
 
 use crate::access::RawAccess;
 use crate::name::{Name, may_be_in_name};
@@ -188,6 +190,30 @@ fn long_number_at(line: &[u8], start: usize) -> (u32, usize)
     }
 }
 
+/// Whether a digit is at an index of a text, and a space after it. The two bytes are tested as one number.
+#[inline(always)]
+fn has_digit(text: &[u8], at: usize) -> bool
+    requires { at + 2 ≤ length text.now }
+    ensures digit { OnTrue result ((48 ≤ slice_index_or text.now at 0) × (slice_index_or text.now at 0 ≤ 57)) }
+    ensures space { OnTrue result (slice_index_or text.now (at + 1) 0 ≡ 32) }
+{
+    let pair = u16::from_le_bytes([text[at], text[at + 1]]);
+    pair >= 0x2030 && pair <= 0x2039
+}
+
+/// Whether a digit is at an index of a text, and a bar between spaces after it. The four bytes are tested as one number.
+#[inline(always)]
+fn has_last_digit(text: &[u8], at: usize) -> bool
+    requires { at + 4 ≤ length text.now }
+    ensures digit { OnTrue result ((48 ≤ slice_index_or text.now at 0) × (slice_index_or text.now at 0 ≤ 57)) }
+    ensures space { OnTrue result (slice_index_or text.now (at + 1) 0 ≡ 32) }
+    ensures bar { OnTrue result (slice_index_or text.now (at + 2) 0 ≡ 124) }
+    ensures end { OnTrue result (slice_index_or text.now (at + 3) 0 ≡ 32) }
+{
+    let four = u32::from_le_bytes([text[at], text[at + 1], text[at + 2], text[at + 3]]);
+    four >= 0x207c_2030 && four <= 0x207c_2039
+}
+
 /// Whether a letter is at an index of the line, and the index after it.
 #[inline(always)]
 fn behind_letter(line: &[u8], place: usize, letter: u8) -> (bool, usize)
@@ -315,6 +341,23 @@ impl<'a> Words<'a> {
         Some(number)
     }
 
+    /// Takes a number below 0, if the next word is the decimal form of one, of nine digits at most; otherwise the words stay as they are.
+    #[inline(always)]
+    pub fn next_negative(&mut self) -> Option<i64>
+        ensures { MatchOption result (self.new ≡ self.old) (λ z. (self.old ≡ signed_decimal z ∷ self.new) × IsTrue (fits_64_bits z)) }
+    {
+        let start = self.start;
+        if start >= self.line.len() || self.line[start] != b'-' {
+            return None;
+        }
+        let (size, end) = long_number_at(self.line, start + 1);
+        if end == start + 1 || size == 0 {
+            return None;
+        }
+        self.start = end + 1;
+        Some(-i64::from(size))
+    }
+
     /// Takes three registers of one digit each and the bar after them, if these are the next words and another follows; otherwise the words
     /// stay as they are. It looks at the eight bytes at once.
     #[inline(always)]
@@ -327,13 +370,10 @@ impl<'a> Words<'a> {
             return None;
         }
         let text = &self.line[start..];
-        if text.len() < 8 || text[6] != b'|' {
+        if text.len() < 8 {
             return None;
         }
-        if text[1] != b' ' || text[3] != b' ' || text[5] != b' ' || text[7] != b' ' {
-            return None;
-        }
-        if !text[0].is_ascii_digit() || !text[2].is_ascii_digit() || !text[4].is_ascii_digit() {
+        if !has_digit(text, 0) || !has_digit(text, 2) || !has_last_digit(text, 4) {
             return None;
         }
         self.start = start + 8;

@@ -48,6 +48,9 @@ pub(crate) fn whole_number(words: &mut Words<'_>) -> Result<i64, LineFault>
     if let Some(number) = words.next_number() {
         return Ok(i64::from(number));
     }
+    if let Some(number) = words.next_negative() {
+        return Ok(number);
+    }
     match words.next() {
         Some(word) => whole_value(word).ok_or(LineFault::BadNumber),
         None => Err(LineFault::BadNumber),

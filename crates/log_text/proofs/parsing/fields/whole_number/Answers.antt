@@ -5,4 +5,4 @@ use Rattle.log_text.proofs.Missing.{whole_missing}
 use Rattle.log_text.proofs.parsing.fields.whole_number.Goals as goal
 
 pub returns-in-None-clause-fault : goal.returns-in-None-clause-fault
-returns-in-None-clause-fault c = ap (λ ws. misfit OfWhole (first_word ws)) (sym c.in_default.ensures ∙ c.in-None.ensures.0) ∙ whole_missing
+returns-in-None-clause-fault c = ap (λ ws. misfit OfWhole (first_word ws)) (sym c.in_default.ensures ∙ sym c.in_default-next_negative.ensures ∙ c.in-None.ensures.0) ∙ whole_missing
