@@ -1,5 +1,5 @@
 //! The steps of a RUN, and the deed after them.
-ghost use Rattle.std.specs.Prelude.{◌≡◌, ◌∷◌, ◌+◌, ◌≤◌, ◌<◌, ℕ, [], Some, None, IfOk, IfErr, IfSome, MatchOption, OnOk, codes, true};
+ghost use Rattle.std.specs.Prelude.{◌≡◌, ◌∷◌, ◌+◌, ◌≤◌, ◌<◌, ◌++◌, ℕ, [], Some, None, IfOk, IfErr, IfSome, MatchOption, OnOk, codes, length, take, true, vec_capacity};
 ghost use Rattle.log_text.specs.Statement.{body_words, last_deed, IsLastDeed, IsLastDeedOf, IsStep, outs_of};
 ghost use Rattle.line_words.specs.StepWords.{step_name, step_word};
 ghost use Rattle.line_words.specs.Faults.{IsFault};
@@ -15,6 +15,7 @@ use crate::statement::{RawDeed, RawStep};
 use crate::version::Version;
 use line_words::{LineFault, Name, StepName, Words};
 use model_base::{MOST_OUTPUTS, MOST_STEPS, Register};
+use std::alloc::AllocError;
 
 /// Takes the word of a step, if the next word is one; otherwise the words stay as they are.
 #[tactic(auto, using(line_words::proofs::StepNames::named_word))]
@@ -31,16 +32,13 @@ fn next_name(words: &mut Words<'_>) -> Option<StepName>
     Some(name)
 }
 
-/// A step of this name fits after this many steps and outs.
+/// A step of this name fits after this many outs, where any step does.
 #[tactic(auto, using(crate::proofs::StepNames::no_step_fault))]
 #[inline(always)]
-fn one_more(name: StepName, steps: usize, outs: usize) -> Result<(), LineFault>
-    ensures ok { OnOk result (step_fault (Some name) steps outs ≡ None) }
-    ensures fault { IfErr result (λ f. step_fault (Some name) steps outs ≡ Some f) }
+fn one_more(name: StepName, outs: usize) -> Result<(), LineFault>
+    ensures ok { OnOk result ((steps : ℕ) → steps < MOST_STEPS → step_fault (Some name) steps outs ≡ None) }
+    ensures fault { IfErr result (λ f. (steps : ℕ) → steps < MOST_STEPS → step_fault (Some name) steps outs ≡ Some f) }
 {
-    if steps >= MOST_STEPS {
-        return Err(LineFault::TooManySteps);
-    }
     if matches!(name, StepName::Out) && outs >= MOST_OUTPUTS {
         return Err(LineFault::TooManySteps);
     }
@@ -49,13 +47,14 @@ fn one_more(name: StepName, steps: usize, outs: usize) -> Result<(), LineFault>
 
 /// Takes what is after the word of an operation, and the bar after it, where it is as in most lines; otherwise the words stay as they are.
 /// Most steps of a long body are operations.
-#[tactic(auto, using(line_words::proofs::Plain::plain_of_decimal))]
+#[tactic(auto, using(line_words::proofs::Plain::plain_of_decimal, crate::proofs::StepNames::no_step_fault))]
 #[inline(always)]
 fn computing<'a>(name: StepName, words: &mut Words<'a>) -> Option<RawStep<'a>>
     ensures step { MatchOption result (words.new ≡ words.old) (λ s. TakesStep (step_word name ∷ words.old) s true words.new
         × IsStep s × (outs_of s ≡ 0)) }
     ensures fits { IfSome result (λ s. (version steps outs : ℕ)
         → fault_from (expected_in (Some name) version steps outs) words.old ≡ fault_from (OfStep version (steps + 1) outs ∷ []) words.new) }
+    ensures free { IfSome result (λ s. (steps outs : ℕ) → steps < MOST_STEPS → step_fault (Some name) steps outs ≡ None) }
 {
     let StepName::Compute(operation) = name else {
         return None;
@@ -130,8 +129,65 @@ fn out_count(step: &RawStep<'_>) -> usize
     }
 }
 
+/// Puts a step at an index of a list, before which others stay.
+#[inline(always)]
+fn put_step<'a>(found: &mut Vec<RawStep<'a>>, place: usize, step: RawStep<'a>)
+    requires within { place ≤ length found.old.items }
+    requires room { place < vec_capacity found.old }
+    ensures taken { take (place + 1) found.new.items ≡ take place found.old.items ++ step.entry ∷ [] }
+    ensures within { place < length found.new.items }
+    ensures room { vec_capacity found.new ≡ vec_capacity found.old }
+{
+    if place < found.len() {
+        found[place] = step;
+    } else {
+        found.push_reserved(step);
+    }
+}
+
+/// Makes an index of a list one where a step may be put, before which others stay.
+#[inline(always)]
+fn make_place(found: &mut Vec<RawStep<'_>>, place: usize)
+    requires within { place ≤ length found.old.items }
+    requires room { place < vec_capacity found.old }
+    ensures taken { take place found.new.items ≡ take place found.old.items }
+    ensures within { place < length found.new.items }
+    ensures room { vec_capacity found.new ≡ vec_capacity found.old }
+{
+    if place >= found.len() {
+        found.push_reserved(RawStep::Check {
+            of: Register::new(0),
+        });
+    }
+}
+
+/// Makes room for all steps that a line may have.
+#[inline(always)]
+fn make_room(found: &mut Vec<RawStep<'_>>) -> Result<(), AllocError>
+    ensures { OnOk result (MOST_STEPS ≤ vec_capacity found.new) }
+{
+    if found.capacity() < MOST_STEPS {
+        found.clear();
+        found.reserve(MOST_STEPS)?;
+    }
+    Ok(())
+}
+
+/// Whether one more step of whatever name fits after this many.
+#[inline(always)]
+fn any_more(steps: usize) -> Result<(), LineFault>
+    ensures ok { OnOk result (steps < MOST_STEPS) }
+    ensures fault { IfErr result (λ f. (name : StepName) (outs : ℕ) → step_fault (Some name) steps outs ≡ Some f) }
+{
+    if steps >= MOST_STEPS {
+        return Err(LineFault::TooManySteps);
+    }
+    Ok(())
+}
+
 /// Takes the steps and the deed after the first bar, to the end of the line. The steps go where room is, and after an error some of them
-/// may be there. Most steps of a line are on one table: the near name is compared first.
+/// may be there. Those of the line before are written over, as a list is longer only the first time. Most steps of a line are on one table:
+/// the near name is compared first.
 pub(crate) fn steps<'a>(
     version: Version,
     words: &mut Words<'a>,
@@ -146,27 +202,29 @@ pub(crate) fn steps<'a>(
 {
     // The steps are taken from a copy of the words, so that the place in the line is kept in a register.
     let mut left = words.same();
-    found.clear();
-    found.reserve(MOST_STEPS)?;
+    make_room(found)?;
     let mut outs = 0;
+    let mut place = 0;
     'steps: loop {
         let Some(name) = next_name(&mut left) else {
+            found.truncate(place);
             *words = left;
             *deed = Some(ending(version, words)?);
             return Ok(());
         };
-        let place = found.len();
-        one_more(name, place, outs)?;
+        any_more(place)?;
         if let Some(step) = computing(name, &mut left) {
-            found.push_reserved(step);
+            put_step(found, place, step);
+            place += 1;
             continue 'steps;
         }
-        found.push_reserved(RawStep::Check {
-            of: Register::new(0),
-        });
+        one_more(name, outs)?;
+        make_place(found, place);
         let more = step(name, &mut left, near, &mut found[place], place, outs)?;
         outs += out_count(&found[place]);
+        place += 1;
         if !more {
+            found.truncate(place);
             return Ok(());
         }
     }
