@@ -97,6 +97,7 @@ impl NameTable {
 
     /// The number of a name, if it is there, as `find`. The name of one number is compared first: where it is the same, nothing
     /// is hashed.
+    #[inline(always)]
     pub(crate) fn find_near(&self, near: u32, name: &str) -> Option<u32>
         ensures number { result ≡ known_number self.now name.now }
         ensures known { is_some result ≡ is_known self.now name.now }

@@ -69,6 +69,7 @@ impl Catalog {
     }
 
     /// The accesses with their tables by number, from left to right. They go where room was made.
+    #[inline(always)]
     pub(crate) fn numbered_accesses(
         &self,
         recent: &mut Table,
@@ -251,6 +252,7 @@ impl Catalog {
     }
 
     /// The steps with their tables by number, from left to right. They go where room was made.
+    #[inline(always)]
     pub(crate) fn numbered_steps(
         &self,
         recent: &mut Table,
