@@ -9,3 +9,4 @@ pub mod Dropping
 pub mod Cutting
 pub mod Keeping
 pub mod Placed
+pub mod Listed

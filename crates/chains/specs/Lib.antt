@@ -1,3 +1,4 @@
 pub mod Store
 pub mod Keyed
 pub mod Kept
+pub mod RowsThere

@@ -13,6 +13,7 @@
 
 mod finding;
 mod laws;
+mod listing;
 mod replaced;
 mod rows;
 mod store;
@@ -20,5 +21,6 @@ mod version;
 mod writes;
 
 pub use laws::{right_stores_stay_right, versions_have_the_cells, versions_of_logs_are_in_order};
+pub use listing::RowThere;
 pub use store::{BadMark, Chains, Trimmed};
 pub use version::Version;

@@ -1,6 +1,7 @@
 //! The versions of all rows, found by their keys.
 
 use crate::finding::index_of;
+use crate::listing::{RowThere, rows_in, sort_rows};
 use crate::replaced::{Dated, Replaced, replaced_before, set_replaced, take_below, take_last_from};
 use crate::version::Version;
 use crate::writes::{Written, take_write_below};
@@ -30,12 +31,13 @@ impl Model for Rows {
 }
 
 impl Rows {
-    ghost use Rattle.std.specs.Prelude.{◌≡◌, ◌+◌, ◌≤◌, ◌<◌, ◌&&◌, ◌++◌, ◌∷◌, [], List, None, ℕ, OnOk, OnErr, false, is_none, length, map, nat_lt, not, slice_set, true};
+    ghost use Rattle.std.specs.Prelude.{◌≡◌, ◌+◌, ◌≤◌, ◌<◌, ◌&&◌, ◌++◌, ◌∷◌, [], List, None, ℕ, IfOk, OnOk, OnErr, false, is_none, length, map, nat_lt, not, slice_set, true};
     ghost use Rattle.std.specs.Bool.{OnTrue, OnFalse};
     ghost use Rattle.model_base.specs.declared.row.Key.{Key as RowKey};
     ghost use Rattle.chains.specs.Kept.{AreChained, AreNoted, AreWrittenBelow, AreWrittenInOrder, IsFrom, IsStoreKept, next_swept, replacing_after, written_by};
     ghost use Rattle.chains.specs.Keyed.{held_below, without_last};
     ghost use Rattle.chains.specs.Store.{AreBetween, is_spent, newest_or, of_key, swept, trimmed};
+    ghost use Rattle.chains.specs.RowsThere.{AreRowsThere};
     ghost use Rattle.chains.specs.declared.writes.Written.{Written as Noted};
 
     /// No version, and keys are found under this seed. It doesn't allocate.
@@ -198,6 +200,16 @@ impl Rows {
                 set_replaced(&self.older, place, key, access, index, window)
             }
         }
+    }
+
+    /// The rows that are there, by table and then by number.
+    pub(crate) fn there(&self, alloc: Global) -> Result<Vec<RowThere>, AllocError>
+        ensures { IfOk result (λ found. (absent : List Noted) (mark end : ℕ) → IsStoreKept self.now absent mark end
+            → AreRowsThere (λ table row. newest_or None self.now.versions end (record { table = table; row = row })) found.items) }
+    {
+        let mut found = rows_in(alloc, &self.newest)?;
+        sort_rows(&mut found);
+        Ok(found)
     }
 
     /// Whether the key has a single version, below the mark, in which the row is absent. One that replaced another one isn't

@@ -1,5 +1,6 @@
 //! The store of the versions of rows.
 
+use crate::listing::RowThere;
 use crate::rows::Rows;
 use crate::version::Version;
 use crate::writes::{Written, cut_writes, note_absent, note_if_absent};
@@ -51,6 +52,7 @@ impl Chains {
     ghost use Rattle.model_base.specs.Versions.{accesses_of};
     ghost use Rattle.model_base.specs.Outcomes.{rows_before};
     ghost use Rattle.body.specs.Shown.{WindowShows};
+    ghost use Rattle.chains.specs.RowsThere.{AreRowsThere};
     ghost use Rattle.chains.specs.Store.{AreBetween, Gains, IsRight, Sweeps, Trims, cut_store, of_key, row_in, rows_at_end, versions_at, versions_between, versions_by};
 
     /// The store before the first place. It doesn't allocate.
@@ -129,6 +131,14 @@ impl Chains {
             return Err(Trimmed);
         }
         Ok(self.rows.newest_before(place, key))
+    }
+
+    /// The rows that are there at the end, by table and then by number, each once. It costs what the store holds, and on `Err` memory was
+    /// refused.
+    pub fn rows_there(&self, alloc: Global) -> Result<Vec<RowThere>, AllocError>
+        ensures { IfOk result (λ found. AreRowsThere (rows_at_end self.now) found.items) }
+    {
+        self.rows.there(alloc)
     }
 
     /// Drops for each key all versions of places below the mark but the newest of them, and returns how many they were. From then on the
