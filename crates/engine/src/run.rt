@@ -15,7 +15,7 @@ use crate::in_order::{run_in_order, run_next};
 use crate::remembering::RememberingBook;
 use crate::state::RunState;
 use body::Window;
-use chains::{BadMark, Chains, Trimmed};
+use chains::{BadMark, Chains, RowThere, Trimmed};
 use filling::Finished;
 use grants::Book;
 use line_io::EngineFault;
@@ -182,6 +182,7 @@ impl Engine {
     ghost use Rattle.std.specs.Option.{MatchOption};
     ghost use Rattle.model_base.specs.Outcomes.{deeds_before, outcome, owners, rows_before};
     ghost use Rattle.model_base.specs.RecordGrantees.{WereGranted, grantee_at};
+    ghost use Rattle.chains.specs.RowsThere.{AreRowsThere};
     ghost use Rattle.chains.specs.Store.{Sweeps, Trims};
     ghost use Rattle.grants_base.specs.Book.{ShowsBook};
     ghost use Rattle.log_text.specs.LineBuffers.{sentence_of};
@@ -474,6 +475,15 @@ impl Engine {
         ensures value { IfOk result (λ row. row ≡ rows_before self.now.log.statements place key.table key.row) }
     {
         self.state.chains.row_before(place, key)
+    }
+
+    /// The rows that are there before the first place that isn't finished, by table and then by number. It costs what the store holds, and
+    /// on `Err` memory was refused.
+    pub fn rows_there(&self, alloc: Global) -> Result<Vec<RowThere>, AllocError>
+        ensures { IfOk result (λ found. AreRowsThere (rows_before self.now.log.statements (finished self.now)) found.items) }
+    {
+        let _mark = self.state.chains.mark();
+        self.state.chains.rows_there(alloc)
     }
 
     /// Drops the versions of rows that only places below the mark can read, and returns how many they were. It doesn't allocate, and costs

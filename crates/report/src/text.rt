@@ -83,8 +83,8 @@ fn put_signed(text: &mut Vec<u8>, number: i64) -> Result<(), AllocError>
     text.extend_from_slice(buffer.format(number).as_bytes())
 }
 
-/// Appends each number after a space.
-fn put_numbers(text: &mut Vec<u8>, numbers: &[i64]) -> Result<(), AllocError>
+/// Appends each number after a space. After an error some of them may be appended.
+pub fn put_numbers(text: &mut Vec<u8>, numbers: &[i64]) -> Result<(), AllocError>
     ensures { OnOk result (text.new.items ≡ text.old.items ++ numbers_text numbers.now) }
 {
     for number in numbers {
