@@ -7,3 +7,4 @@ pub mod Fallen
 pub mod Lines
 pub mod SpelledRecords
 pub mod Failing
+pub mod RowsRead

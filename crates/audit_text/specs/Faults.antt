@@ -9,6 +9,10 @@ use Rattle.audit_text.specs.declared.fault.WorkFault.{WorkFault}
 abbrev pub IsOfAnswer : WorkFault → Type 0
 IsOfAnswer fault = (fault ≢ WorkFault.Run EngineFault.BadSettings) × (fault ≢ WorkFault.Run EngineFault.Spawn)
 
+-- and one of an answer that is asked of no table
+abbrev pub IsOfPlace : WorkFault → Type 0
+IsOfPlace fault = IsOfAnswer fault × (fault ≢ WorkFault.NoSuchTable)
+
 -- which places a log has that has so many
 abbrev pub range_text : ℕ → List ℕ
 range_text zero = codes "no places"
@@ -22,3 +26,4 @@ extent_text places = range_text places ++ codes ", and ends at " ++ decimal plac
 abbrev pub work_fault_text : WorkFault → List ℕ
 work_fault_text (WorkFault.Run fault) = engine_fault_text fault
 work_fault_text (WorkFault.NoSuchPlace places) = codes "no such place: the log has " ++ extent_text places
+work_fault_text WorkFault.NoSuchTable = codes "no such table"

@@ -5,3 +5,5 @@ pub mod Texts
 pub mod Explanation
 pub mod Drawn
 pub mod Graph
+pub mod RowsText
+pub mod RowsBefore

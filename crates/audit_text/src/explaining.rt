@@ -7,7 +7,7 @@ ghost use Rattle.line_io.specs.Known.{AppendsFront, raised};
 ghost use Rattle.line_io.specs.declared.fault.EngineFault.{EngineFault};
 ghost use Rattle.engine.specs.Engine.{finished};
 ghost use Rattle.audit_text.specs.Answer.{HasNoPlace, AnswersAccepted, IsExplanation};
-ghost use Rattle.audit_text.specs.Faults.{IsOfAnswer};
+ghost use Rattle.audit_text.specs.Faults.{IsOfPlace};
 ghost use Rattle.audit_text.specs.Texts.{SaysText};
 
 use crate::fault::WorkFault;
@@ -40,7 +40,7 @@ fn write_answer<W: Write>(
     ensures write { result ≡ Err (WorkFault.Run EngineFault.Write) → writer.new.errors ≡ raised writer.old.errors }
     ensures whole { OnOk result (writer.new.errors ≡ writer.old.errors) }
     ensures flushed { OnOk result ((writer.new.flushes ≡ raised writer.old.flushes) × (writer.new.is_flushed ≡ true)) }
-    ensures alone { IfErr result IsOfAnswer }
+    ensures alone { IfErr result IsOfPlace }
 {
     let mut text = Vec::new(alloc);
     put_answer(alloc, &mut text, engine, question)?;
@@ -68,7 +68,7 @@ pub fn explain_text<R: Read, W: Write>(
     ensures failures { CountsFailures (WorkFault.Run EngineFault.Read) (WorkFault.Run EngineFault.Write)
         reader.old reader.new writer.old writer.new result }
     // The run has no settings, and starts no thread.
-    ensures alone { IfErr result IsOfAnswer }
+    ensures alone { IfErr result IsOfPlace }
 {
     let engine = run_quietly_to(alloc, reader, Some(question.place), seed)?;
     write_answer(alloc, writer, &engine, question)

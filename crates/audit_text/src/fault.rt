@@ -17,6 +17,8 @@ pub enum WorkFault {
     Run(EngineFault),
     /// The log has no such place, but has this many.
     NoSuchPlace(u64),
+    /// No accepted statement before the place creates the table.
+    NoSuchTable,
 }
 
 /// Which places a log has that has this many.
@@ -64,6 +66,7 @@ impl fmt::Display for WorkFault {
                 let extent = Extent(*places);
                 write!(f, "no such place: the log has {extent}")
             }
+            WorkFault::NoSuchTable => f.write_str("no such table"),
         }
     }
 }

@@ -7,7 +7,7 @@ ghost use Rattle.line_io.specs.Known.{AppendsFront, raised};
 ghost use Rattle.line_io.specs.declared.fault.EngineFault.{EngineFault};
 ghost use Rattle.engine.specs.Engine.{finished};
 ghost use Rattle.audit_text.specs.Picture.{EndsBefore, IsPicture, IsPictureOf, place_before};
-ghost use Rattle.audit_text.specs.Faults.{IsOfAnswer};
+ghost use Rattle.audit_text.specs.Faults.{IsOfPlace};
 ghost use Rattle.audit_text.specs.Texts.{SaysText};
 
 use crate::fault::WorkFault;
@@ -56,7 +56,7 @@ fn write_picture<W: Write>(
     ensures write { result ≡ Err (WorkFault.Run EngineFault.Write) → writer.new.errors ≡ raised writer.old.errors }
     ensures whole { OnOk result (writer.new.errors ≡ writer.old.errors) }
     ensures flushed { OnOk result ((writer.new.flushes ≡ raised writer.old.flushes) × (writer.new.is_flushed ≡ true)) }
-    ensures alone { IfErr result IsOfAnswer }
+    ensures alone { IfErr result IsOfPlace }
 {
     let mut text = Vec::new(alloc);
     put_picture(&mut text, engine, limit)?;
@@ -84,7 +84,7 @@ pub fn grants_text<R: Read, W: Write>(
     ensures failures { CountsFailures (WorkFault.Run EngineFault.Read) (WorkFault.Run EngineFault.Write)
         reader.old reader.new writer.old writer.new result }
     // The run has no settings, and starts no thread.
-    ensures alone { IfErr result IsOfAnswer }
+    ensures alone { IfErr result IsOfPlace }
 {
     let engine = run_quietly_to(alloc, reader, limit, seed)?;
     write_picture(alloc, writer, &engine, limit)

@@ -1,17 +1,18 @@
 -- The numbers among the words: the options of `run` and their rules, and the places that are asked of.
-use Rattle.std.specs.Prelude.{ℕ, Bool, List, [], ◌∷◌, Option, Some, None, bytes_eq, codes, false, if◌then◌else◌, option_and_then, option_map, true}
+use Rattle.std.specs.Prelude.{◌&&◌, ℕ, Bool, List, [], ◌∷◌, Option, Some, None, bytes_eq, codes, false, if◌then◌else◌, nat_le, option_and_then, option_map, slice_get, true}
 use Rattle.std.specs.Option.{option_map_or}
 use Rattle.std.specs.Str.Parse.{digits_value, without_leading_plus}
 use Rattle.clap.specs.ValueTests.{is_unsigned_in}
 use Rattle.clap.specs.Walk.{Row, Rule, Text, first_of}
 use Rattle.clap.specs.Simple.{App, new_rule, with_rule}
 use Rattle.clap.specs.declared.builder.value_parser.ValueParser.TheVariants as vp
-use Rattle.model_base.specs.declared.limits.TheConstants.{MOST_BATCH_STATEMENTS, MOST_KEPT_BATCHES, MOST_PARTITIONS, MOST_WORKERS}
+use Rattle.model_base.specs.declared.limits.TheConstants.{MOST_BATCH_STATEMENTS, MOST_KEPT_BATCHES, MOST_PARTITIONS, MOST_PLACES, MOST_WORKERS}
 use Rattle.audit_text.specs.declared.question.Question.{Question}
 use Rattle.command_line.specs.declared.options.Choice.{Choice}
 use Rattle.command_line.specs.declared.options.Limit.{Limit}
 use Rattle.command_line.specs.declared.options.TheConstants.{MOST_AHEAD, MOST_PLACE}
 use Rattle.command_line.specs.declared.options.Progress.{Progress}
+use Rattle.command_line.specs.declared.options.RowsAsked.{RowsAsked}
 
 -- an option whose value is a number within these limits, with these defaults
 abbrev pub number_rule : Text → ℕ → ℕ → List Text → Rule
@@ -93,3 +94,25 @@ limit_among rows = option_map limit_by (choice_among (codes "PLACE") 0 MOST_PLAC
 abbrev pub place_named : Limit → Option ℕ
 place_named Limit.End = None
 place_named (Limit.Before place) = Some place
+
+-- whether a word begins with a digit, as no name of a table does
+abbrev pub starts_with_digit : Text → Bool
+starts_with_digit word = option_map_or (λ code. nat_le 48 code && nat_le code 57) (slice_get word 0) false
+
+-- the words for the table and for the place: a lone word that begins with a digit is the place
+abbrev pub table_and_place : Option Text → Option Text → Option Text × Option Text
+table_and_place (Some word) None = if starts_with_digit word then (None, Some word) else (Some word, None)
+table_and_place (Some word) (Some place) = (Some word, Some place)
+table_and_place None place = (None, place)
+
+-- the table and the limit by these words, if the limit is within the limits
+abbrev pub rows_of_words : Option Text × Option Text → Option (Option Text × Limit)
+rows_of_words words = option_map (λ choice. (words.0, limit_by choice)) (choice_within 0 MOST_PLACES words.1)
+
+-- and so by the words of `rows`
+abbrev pub rows_among : List Row → Option (Option Text × Limit)
+rows_among rows = rows_of_words (table_and_place (first_of (codes "TABLE") rows) (first_of (codes "PLACE") rows))
+
+-- the table and the limit of the rows that are asked for
+abbrev pub rows_named : RowsAsked → Option Text × Limit
+rows_named asked = (option_map (λ word. word.now) asked.table, asked.limit)

@@ -4,9 +4,10 @@ use Rattle.line_io.specs.declared.fault.EngineFault.{EngineFault}
 use Rattle.report.specs.Report.{IsReport}
 use Rattle.audit_text.specs.Answer.{HasNoPlace, IsExplanation}
 use Rattle.audit_text.specs.Picture.{EndsBefore, IsPicture}
+use Rattle.audit_text.specs.RowsBefore.{IsRows, LacksTable}
 use Rattle.audit_text.specs.declared.fault.WorkFault.{WorkFault}
 use Rattle.batched_text.specs.declared.settings.Arrival.{Arrival}
-use Rattle.command_line.specs.Options.{IfGiven, place_named}
+use Rattle.command_line.specs.Options.{IfGiven, place_named, rows_named}
 use Rattle.command_line.specs.Ways.{is_alone}
 use Rattle.command_line.specs.Words.{path_of}
 use Rattle.command_line.specs.declared.command_words.Command.{Command}
@@ -21,6 +22,7 @@ path_in (Command.Run source settings ahead) = path_of source
 path_in (Command.Serial source) = path_of source
 path_in (Command.Explain source question) = path_of source
 path_in (Command.Grants source limit) = path_of source
+path_in (Command.Rows source which) = path_of source
 
 -- the text answers a command about the bytes of its log
 abbrev pub AnswersCommand : Command → List ℕ → List ℕ → Type 0
@@ -28,6 +30,7 @@ AnswersCommand (Command.Run source settings ahead) input text = IsReport input t
 AnswersCommand (Command.Serial source) input text = IsReport input text
 AnswersCommand (Command.Explain source question) input text = IsExplanation input question text
 AnswersCommand (Command.Grants source limit) input text = IsPicture input (place_named limit) text
+AnswersCommand (Command.Rows source which) input text = IsRows input (rows_named which).0 (place_named which.limit) text
 
 -- the log has so many places, and not the one that a command asks about
 abbrev pub LacksPlace : Command → ℕ → List ℕ → Type 0
@@ -35,6 +38,15 @@ LacksPlace (Command.Run source settings ahead) places input = ⊥
 LacksPlace (Command.Serial source) places input = ⊥
 LacksPlace (Command.Explain source question) places input = HasNoPlace input question.place places
 LacksPlace (Command.Grants source limit) places input = EndsBefore input (place_named limit) places
+LacksPlace (Command.Rows source which) places input = EndsBefore input (place_named which.limit) places
+
+-- the log has no table of the name that a command asks for
+abbrev pub LacksItsTable : Command → List ℕ → Type 0
+LacksItsTable (Command.Run source settings ahead) input = ⊥
+LacksItsTable (Command.Serial source) input = ⊥
+LacksItsTable (Command.Explain source question) input = ⊥
+LacksItsTable (Command.Grants source limit) input = ⊥
+LacksItsTable (Command.Rows source which) input = LacksTable input (rows_named which).0 (place_named which.limit)
 
 -- the end of a command's work, or of that on its log
 abbrev pub EndOf : Type 0 → Type 0
@@ -62,6 +74,7 @@ IsTaskOf arrival (Command.Run source settings ahead) task =
 IsTaskOf arrival (Command.Serial source) task = task ≡ Task.Slow
 IsTaskOf arrival (Command.Explain source question) task = task ≡ Task.Explain question
 IsTaskOf arrival (Command.Grants source limit) task = task ≡ Task.Picture limit
+IsTaskOf arrival (Command.Rows source which) task = task ≡ Task.List which
 
 -- the fault says that a file can't be opened
 abbrev pub IsOpenFault : ProgramFault → Type 0

@@ -5,6 +5,7 @@ use Rattle.clap.specs.declared.builder.action.ArgAction.TheVariants.{SetTrue}
 use Rattle.clap.specs.declared.builder.value_parser.ValueParser.TheVariants as vp
 use denote.Ref.{Bor}
 use Rattle.command_line.specs.Options.{with_options}
+use Rattle.model_base.specs.declared.limits.TheConstants.{MOST_PLACES}
 use Rattle.command_line.specs.declared.options.TheConstants.{MOST_PLACE}
 
 -- a word that has to be there
@@ -44,13 +45,22 @@ explain_app =
 abbrev pub grants_app : App
 grants_app = with_rule (over_file (codes "grants")) (place_rule (new_rule (codes "PLACE")))
 
--- the program has a version and these four subcommands, one of which has to be there; each may have the flags for progress
+-- a word that is how many places stand before one
+abbrev pub limit_rule : Rule
+limit_rule = record (new_rule (codes "PLACE")) { parser = Some (vp.Unsigned 0 MOST_PLACES) }
+
+-- `rows` has to have FILE, and may have TABLE and PLACE
+abbrev pub rows_app : App
+rows_app = with_rule (with_rule (over_file (codes "rows")) (new_rule (codes "TABLE"))) limit_rule
+
+-- the program has a version and these five subcommands, one of which has to be there; each may have the flags for progress
 abbrev pub bohm_app : App
 bohm_app =
     let app = with_subcommand (new_app (codes "bohm")) (with_progress run_app).top in
     let app = with_subcommand app (with_progress (over_file (codes "serial"))).top in
     let app = with_subcommand app (with_progress explain_app).top in
     let app = with_subcommand app (with_progress grants_app).top in
+    let app = with_subcommand app (with_progress rows_app).top in
     record app { top = record app.top { has_version = true; subcommand_required = true } }
 
 -- the texts of some words

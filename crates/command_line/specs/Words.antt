@@ -7,7 +7,7 @@ use Rattle.clap.specs.declared.error.kind.ErrorKind.{ErrorKind}
 use Rattle.audit_text.specs.Faults.{work_fault_text}
 use Rattle.audit_text.specs.declared.question.Question.{Question}
 use Rattle.batched_text.specs.declared.settings.Settings.{Settings}
-use Rattle.command_line.specs.Options.{limit_among, progress_among, question_among}
+use Rattle.command_line.specs.Options.{limit_among, progress_among, question_among, rows_among, rows_named}
 use Rattle.command_line.specs.Ways.{IsWithin, way_among}
 use Rattle.command_line.specs.declared.command_words.Command.{Command}
 use Rattle.command_line.specs.declared.command_words.ProgramFault.{ProgramFault}
@@ -62,7 +62,8 @@ verb_named name =
     if bytes_eq name (codes "serial") then Verb.Serial
     else (if bytes_eq name (codes "explain") then Verb.Explain
     else (if bytes_eq name (codes "grants") then Verb.Grants
-    else Verb.Run))
+    else (if bytes_eq name (codes "rows") then Verb.Rows
+    else Verb.Run)))
 
 -- the path of a log that isn't standard input
 abbrev pub path_of : Source → Option Text
@@ -79,13 +80,15 @@ pub data Asked : Type 0 where
   serial : Option Text → Asked
   explain : Option Text → Question → Asked
   grants : Option Text → Limit → Asked
+  rows : Option Text → Option Text × Limit → Asked
 
 -- what a subcommand asks for with these words, if its numbers are within their limits
 abbrev pub asked_by : Verb → Option Text → List Row → Option Asked
-asked_by Verb.Run path rows = option_map (λ (way : Way). run path way.settings way.ahead) (way_among rows)
-asked_by Verb.Serial path rows = Some (serial path)
-asked_by Verb.Explain path rows = option_map (explain path) (question_among rows)
-asked_by Verb.Grants path rows = option_map (grants path) (limit_among rows)
+asked_by Verb.Run path words = option_map (λ (way : Way). run path way.settings way.ahead) (way_among words)
+asked_by Verb.Serial path words = Some (serial path)
+asked_by Verb.Explain path words = option_map (explain path) (question_among words)
+asked_by Verb.Grants path words = option_map (grants path) (limit_among words)
+asked_by Verb.Rows path words = option_map (rows path) (rows_among words)
 
 -- what the words of a subcommand that was entered ask for
 abbrev pub asked_in : Option (Text × List Row) → Option Asked
@@ -102,6 +105,7 @@ asked (Command.Run source settings ahead) = run (path_of source) settings ahead
 asked (Command.Serial source) = serial (path_of source)
 asked (Command.Explain source question) = explain (path_of source) question
 asked (Command.Grants source limit) = grants (path_of source) limit
+asked (Command.Rows source which) = rows (path_of source) (rows_named which)
 
 -- the command is what the words of a subcommand ask for
 abbrev pub Asks : Command → Option (Text × List Row) → Type 0
@@ -117,3 +121,4 @@ IsWithinLimits (Command.Run source settings ahead) = IsWithin (record { settings
 IsWithinLimits (Command.Serial source) = Unit {0}
 IsWithinLimits (Command.Explain source question) = Unit {0}
 IsWithinLimits (Command.Grants source limit) = Unit {0}
+IsWithinLimits (Command.Rows source which) = Unit {0}

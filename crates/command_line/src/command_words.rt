@@ -6,7 +6,9 @@ ghost use Rattle.clap.specs.Words.{fault_of, found_of, kind_of, rows_of, subcomm
 ghost use Rattle.command_line.specs.Shapes.{bohm_app, texts_of};
 ghost use Rattle.command_line.specs.Words.{Asks, AsksOutsideLimits, IsWithinLimits, TellsError, TellsOneOf, asked, asked_by, asked_in, message_of, path_named, path_of, progress_in, status_of, stream_of, verb_named};
 
-use crate::options::{Choice, Limit, Progress, limit_of, progress_of, question_of, way_of};
+use crate::options::{
+    Choice, Limit, Progress, RowsAsked, limit_of, progress_of, question_of, rows_asked, way_of,
+};
 use crate::subcommands::program;
 use audit_text::{Question, WorkFault};
 use batched_text::Settings;
@@ -47,6 +49,8 @@ pub enum Command<'a> {
     Explain(Source<'a>, Question),
     /// Write the grants in force before a place of a log, or at its end.
     Grants(Source<'a>, Limit),
+    /// Write the rows that are there before a place of a log, or at its end.
+    Rows(Source<'a>, RowsAsked<'a>),
 }
 
 impl<'a> Command<'a> {
@@ -60,7 +64,8 @@ impl<'a> Command<'a> {
             Command::Run(source, _, _)
             | Command::Serial(source)
             | Command::Explain(source, _)
-            | Command::Grants(source, _) => source,
+            | Command::Grants(source, _)
+            | Command::Rows(source, _) => source,
         }
     }
 }
@@ -81,6 +86,7 @@ pub(crate) enum Verb {
     Serial,
     Explain,
     Grants,
+    Rows,
 }
 
 /// Why the words are no command, with the text to print.
@@ -161,6 +167,7 @@ fn verb_of(name: &str) -> Verb
         "serial" => Verb::Serial,
         "explain" => Verb::Explain,
         "grants" => Verb::Grants,
+        "rows" => Verb::Rows,
         _ => Verb::Run,
     }
 }
@@ -192,6 +199,10 @@ fn command_of<'a>(verb: Verb, source: Source<'a>, found: &ArgMatches<'a>) -> Opt
         },
         Verb::Grants => match limit_of(found) {
             Some(limit) => Some(Command::Grants(source, limit)),
+            None => None,
+        },
+        Verb::Rows => match rows_asked(found) {
+            Some(asked) => Some(Command::Rows(source, asked)),
             None => None,
         },
     }

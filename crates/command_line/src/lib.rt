@@ -18,7 +18,7 @@ pub use arguments::argument_fault;
 pub use command_words::{
     Command, ProgramFault, Request, Source, Stream, Usage, ending, read_words,
 };
-pub use options::{Choice, Limit, Progress};
+pub use options::{Choice, Limit, Progress, RowsAsked};
 pub use running::do_command;
 pub use sources::{Opened, Sources};
 pub use work::{Job, SeededJob, Task};

@@ -1,11 +1,11 @@
 //! The numbers among the words: the options of `run`, by how many workers and partitions its log is run, how it is cut into batches,
-//! and how many threads read its lines ahead; and the places of which `explain` and `grants` are asked.
+//! and how many threads read its lines ahead; and the places of which `explain`, `grants` and `rows` are asked.
 
 ghost use Rattle.std.specs.Prelude.{◌≡◌, ◌≤◌, ◌∷◌, ◌||◌, [], IfOk, IfSome, codes, option_map, true};
 ghost use Rattle.command_line.specs.Ways.{IsWithin, is_alone, way_among, way_by, way_told};
 ghost use Rattle.clap.specs.Words.{app_of, found_of, rows_of, with_rule};
 ghost use Rattle.batched_text.specs.Settings.{are_within_limits};
-ghost use Rattle.command_line.specs.Options.{IfGiven, choice_among, choice_within, given_or, has_flag, is_given, limit_among, limit_by, number_among, number_rule, number_within, place_named, progress_among, question_among, with_options};
+ghost use Rattle.command_line.specs.Options.{IfGiven, choice_among, choice_within, given_or, has_flag, is_given, limit_among, limit_by, number_among, number_rule, number_within, place_named, progress_among, question_among, rows_among, rows_named, starts_with_digit, table_and_place, with_options};
 
 use audit_text::Question;
 use batched_text::Settings;
@@ -374,6 +374,53 @@ pub(crate) fn limit_of(found: &ArgMatches<'_>) -> Option<Limit>
     let word = found.get_str("PLACE");
     match choice_within(word, 0, MOST_PLACE) {
         Some(place) => Some(limit_by(place)),
+        None => None,
+    }
+}
+
+/// Which rows of a log are asked for.
+#[derive(Clone, Copy)]
+pub struct RowsAsked<'a> {
+    /// Of the table of this name, if one is named.
+    pub table: Option<&'a str>,
+    /// Those before this place, or at the end.
+    pub limit: Limit,
+}
+
+/// Whether a word begins with a digit, as no name of a table does.
+fn starts_with_digit(word: &str) -> bool
+    ensures { result ≡ starts_with_digit word.now }
+{
+    match word.as_bytes().first() {
+        Some(first) => first.is_ascii_digit(),
+        None => false,
+    }
+}
+
+/// The words for the table and for the place: a lone word that begins with a digit is the place.
+fn table_and_place<'a>(
+    table: Option<&'a str>,
+    place: Option<&'a str>,
+) -> (Option<&'a str>, Option<&'a str>)
+    ensures { (option_map (λ word. word.now) result.0, option_map (λ word. word.now) result.1)
+        ≡ table_and_place (option_map (λ word. word.now) table.entry) (option_map (λ word. word.now) place.entry) }
+{
+    match table {
+        Some(word) if place.is_none() && starts_with_digit(word) => (None, table),
+        _ => (table, place),
+    }
+}
+
+/// The rows that the words of `rows` ask for, if their place is within the limits.
+pub(crate) fn rows_asked<'a>(found: &ArgMatches<'a>) -> Option<RowsAsked<'a>>
+    ensures { option_map rows_named result ≡ rows_among (rows_of (found_of found.now)) }
+{
+    let (table, place) = table_and_place(found.get_str("TABLE"), found.get_str("PLACE"));
+    match choice_within(place, 0, MOST_PLACES) {
+        Some(place) => Some(RowsAsked {
+            table,
+            limit: limit_by(place),
+        }),
         None => None,
     }
 }

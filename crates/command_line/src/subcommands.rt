@@ -2,11 +2,12 @@
 
 ghost use Rattle.std.specs.Prelude.{◌≡◌, IfOk, codes, true};
 ghost use Rattle.clap.specs.Words.{app_of, new_rule, with_rule, with_subcommand};
-ghost use Rattle.command_line.specs.Shapes.{bohm_app, explain_app, flag_rule, grants_app, over_file, place_rule, required_rule, run_app, with_progress};
+ghost use Rattle.command_line.specs.Shapes.{bohm_app, explain_app, flag_rule, grants_app, limit_rule, over_file, place_rule, required_rule, rows_app, run_app, with_progress};
 
 use crate::options::{MOST_PLACE, with_options};
 use clap::builder::ValueParser;
 use clap::{Arg, ArgAction, Command};
+use model_base::MOST_PLACES;
 use std::alloc::{AllocError, Global};
 
 /// Adds a flag to a command's description.
@@ -124,6 +125,39 @@ fn describe_grants<'a>(alloc: Global) -> Result<Command<'a>, AllocError>
     with_limit(alloc, grants)
 }
 
+/// Adds the word TABLE, which may be there, to a command's description.
+fn with_table<'a>(alloc: Global, command: Command<'a>) -> Result<Command<'a>, AllocError>
+    ensures { IfOk result (λ c. app_of c ≡ with_rule (app_of command.entry) (new_rule (codes "TABLE"))) }
+{
+    let table = Arg::new(alloc, "TABLE").help(
+        "The table whose rows are written. Without it, the rows of all tables",
+    );
+    command.arg(table)
+}
+
+/// Adds the word PLACE before which rows stand, which may be there, to a command's description.
+fn with_rows_limit<'a>(alloc: Global, command: Command<'a>) -> Result<Command<'a>, AllocError>
+    ensures { IfOk result (λ c. app_of c ≡ with_rule (app_of command.entry) limit_rule) }
+{
+    let place = Arg::new(alloc, "PLACE")
+        .value_parser(ValueParser::unsigned(0, MOST_PLACES))
+        .help("The place before which the rows are there. Without it, the end of the log");
+    command.arg(place)
+}
+
+/// The description of `rows`, but for the flags for progress.
+fn describe_rows<'a>(alloc: Global) -> Result<Command<'a>, AllocError>
+    ensures { IfOk result (λ c. app_of c ≡ rows_app) }
+{
+    let rows = over_file(
+        alloc,
+        "rows",
+        "Writes the rows that are there before a place",
+    )?;
+    let rows = with_table(alloc, rows)?;
+    with_rows_limit(alloc, rows)
+}
+
 /// Adds a subcommand, with the flags for progress, to the program's description.
 fn with_subcommand<'a>(
     alloc: Global,
@@ -156,5 +190,7 @@ pub(crate) fn program<'a>(alloc: Global) -> Result<Command<'a>, AllocError>
     let bohm = with_subcommand(alloc, bohm, explain)?;
     let grants = describe_grants(alloc)?;
     let bohm = with_subcommand(alloc, bohm, grants)?;
+    let rows = describe_rows(alloc)?;
+    let bohm = with_subcommand(alloc, bohm, rows)?;
     Ok(bohm.subcommand_required(true))
 }

@@ -7,10 +7,10 @@ ghost use Rattle.line_io.specs.declared.fault.EngineFault.{EngineFault};
 ghost use Rattle.audit_text.specs.Texts.{SaysText};
 ghost use Rattle.audit_text.specs.declared.fault.WorkFault.{WorkFault};
 ghost use Rattle.command_line.specs.declared.work.Task.{Task};
-ghost use Rattle.command_line.specs.Tasks.{AnswersTask, MayAnswer, TaskIsWithin, TaskLacksPlace};
+ghost use Rattle.command_line.specs.Tasks.{AnswersTask, MayAnswer, TaskIsWithin, TaskLacksPlace, TaskLacksTable};
 
-use crate::options::Limit;
-use audit_text::{Question, WorkFault, explain_text, grants_text};
+use crate::options::{Limit, RowsAsked};
+use audit_text::{Question, WorkFault, explain_text, grants_text, rows_text};
 use batched_text::{
     Arrival, Batches, ReadingAhead, Settings, report_alone, report_in_order, report_text,
 };
@@ -24,7 +24,7 @@ use std::thread::Threads;
 
 /// What is to be done with a log.
 #[derive(Clone, Copy)]
-pub enum Task {
+pub enum Task<'a> {
     /// Run it in order on one thread, while this many further threads read lines before their turn.
     InOrder(u64),
     /// Run it in batches, by placers and workers on threads, as its bytes arrive. Nothing that is finished is kept but rows and grants.
@@ -35,6 +35,8 @@ pub enum Task {
     Explain(Question),
     /// Picture the grants in force before a place, or at the end.
     Picture(Limit),
+    /// List the rows that are there before a place, or at the end.
+    List(RowsAsked<'a>),
 }
 
 /// Work on a log by a task, from the log's bytes to those that it says. A trait, so that only the work itself can give `answers`: a command
@@ -45,22 +47,24 @@ pub trait Job {
 
     /// Reads the log, as far as it has to, and writes what it says of it. After a fault a beginning of that was written, or nothing; `Read`
     /// and `Write` come only where the log's reader or the writer failed, `NoSuchPlace` only where the log has that many places and not this
-    /// one, and then nothing is written. Ok comes only where neither failed and the writer was flushed, once, and not written to since.
+    /// one, `NoSuchTable` only where no table is of the name, and then nothing is written. Ok comes only where neither failed and the writer was flushed, once, and not written to since.
     fn work<T: Threads + Wait + Sync, R: Read, W: Write>(
         &self,
         rt: &T,
         alloc: Global,
-        task: Task,
+        task: Task<'_>,
         log: &mut Counted<R>,
         told: &mut Counted<W>,
     ) -> Result<(), WorkFault>
         requires shared { IsSync T.row }
         requires within { TaskIsWithin task }
-        ensures answers { answers self.now task result }
-        ensures text { SaysText (AnswersTask task)
+        ensures answers { answers self.now task.entry result }
+        ensures text { SaysText (AnswersTask task.entry)
             (R.remaining log.old.inner) (W.contents told.old.inner) (W.contents told.new.inner) result }
         ensures none { (places : ℕ) → result ≡ Err (WorkFault.NoSuchPlace places)
-            → (told.new ≡ told.old) × IfSome (R.remaining log.old.inner) (TaskLacksPlace task places) }
+            → (told.new ≡ told.old) × IfSome (R.remaining log.old.inner) (TaskLacksPlace task.entry places) }
+        ensures table { result ≡ Err WorkFault.NoSuchTable
+            → (told.new ≡ told.old) × IfSome (R.remaining log.old.inner) (TaskLacksTable task.entry) }
         ensures settings { result ≡ Err (WorkFault.Run EngineFault.BadSettings) → ⊥ }
         ensures failures { CountsFailures (WorkFault.Run EngineFault.Read) (WorkFault.Run EngineFault.Write)
             log.old log.new told.old told.new result };
@@ -80,7 +84,7 @@ impl Job for SeededJob {
         &self,
         rt: &T,
         alloc: Global,
-        task: Task,
+        task: Task<'_>,
         log: &mut Counted<R>,
         told: &mut Counted<W>,
     ) -> Result<(), WorkFault> {
@@ -109,6 +113,14 @@ impl Job for SeededJob {
             },
             Task::Explain(question) => explain_text(alloc, log, told, question, self.seed),
             Task::Picture(limit) => grants_text(alloc, log, told, limit.place(), self.seed),
+            Task::List(asked) => rows_text(
+                alloc,
+                log,
+                told,
+                asked.table,
+                asked.limit.place(),
+                self.seed,
+            ),
         }
     }
 }
