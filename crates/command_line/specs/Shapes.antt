@@ -53,14 +53,23 @@ limit_rule = record (new_rule (codes "PLACE")) { parser = Some (vp.Unsigned 0 MO
 abbrev pub rows_app : App
 rows_app = with_rule (with_rule (over_file (codes "rows")) (new_rule (codes "TABLE"))) limit_rule
 
+-- a log is run, by the executor or the reference executor
+abbrev pub with_runs : App → App
+with_runs app =
+    let app = with_subcommand app (with_progress run_app).top in
+    with_subcommand app (with_progress (over_file (codes "serial"))).top
+
+-- or it is asked of
+abbrev pub with_questions : App → App
+with_questions app =
+    let app = with_subcommand app (with_progress explain_app).top in
+    let app = with_subcommand app (with_progress grants_app).top in
+    with_subcommand app (with_progress rows_app).top
+
 -- the program has a version and these five subcommands, one of which has to be there; each may have the flags for progress
 abbrev pub bohm_app : App
 bohm_app =
-    let app = with_subcommand (new_app (codes "bohm")) (with_progress run_app).top in
-    let app = with_subcommand app (with_progress (over_file (codes "serial"))).top in
-    let app = with_subcommand app (with_progress explain_app).top in
-    let app = with_subcommand app (with_progress grants_app).top in
-    let app = with_subcommand app (with_progress rows_app).top in
+    let app = with_questions (with_runs (new_app (codes "bohm"))) in
     record app { top = record app.top { has_version = true; subcommand_required = true } }
 
 -- the texts of some words

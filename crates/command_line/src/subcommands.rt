@@ -2,7 +2,7 @@
 
 ghost use Rattle.std.specs.Prelude.{◌≡◌, IfOk, codes, true};
 ghost use Rattle.clap.specs.Words.{app_of, new_rule, with_rule, with_subcommand};
-ghost use Rattle.command_line.specs.Shapes.{bohm_app, explain_app, flag_rule, grants_app, limit_rule, over_file, place_rule, required_rule, rows_app, run_app, with_progress};
+ghost use Rattle.command_line.specs.Shapes.{bohm_app, explain_app, flag_rule, grants_app, limit_rule, over_file, place_rule, required_rule, rows_app, run_app, with_progress, with_questions, with_runs};
 
 use crate::options::{MOST_PLACE, with_options};
 use clap::builder::ValueParser;
@@ -171,6 +171,32 @@ fn with_subcommand<'a>(
     program.subcommand(subcommand)
 }
 
+/// Adds the subcommands that run a log to the program's description.
+fn with_runs<'a>(alloc: Global, program: Command<'a>) -> Result<Command<'a>, AllocError>
+    ensures { IfOk result (λ c. app_of c ≡ with_runs (app_of program.entry)) }
+{
+    let run = describe_run(alloc)?;
+    let program = with_subcommand(alloc, program, run)?;
+    let serial = over_file(
+        alloc,
+        "serial",
+        "Executes a log by the reference executor, for comparison on logs of up to some thousand lines",
+    )?;
+    with_subcommand(alloc, program, serial)
+}
+
+/// Adds the subcommands that ask of a log to the program's description.
+fn with_questions<'a>(alloc: Global, program: Command<'a>) -> Result<Command<'a>, AllocError>
+    ensures { IfOk result (λ c. app_of c ≡ with_questions (app_of program.entry)) }
+{
+    let explain = describe_explain(alloc)?;
+    let program = with_subcommand(alloc, program, explain)?;
+    let grants = describe_grants(alloc)?;
+    let program = with_subcommand(alloc, program, grants)?;
+    let rows = describe_rows(alloc)?;
+    with_subcommand(alloc, program, rows)
+}
+
 /// The program's own description of its words.
 pub(crate) fn program<'a>(alloc: Global) -> Result<Command<'a>, AllocError>
     ensures { IfOk result (λ c. app_of c ≡ bohm_app) }
@@ -178,19 +204,7 @@ pub(crate) fn program<'a>(alloc: Global) -> Result<Command<'a>, AllocError>
     let bohm = Command::new(alloc, "bohm")
         .version("0.1.0")
         .about("A deterministic transaction executor");
-    let run = describe_run(alloc)?;
-    let bohm = with_subcommand(alloc, bohm, run)?;
-    let serial = over_file(
-        alloc,
-        "serial",
-        "Executes a log by the reference executor, for comparison on logs of up to some thousand lines",
-    )?;
-    let bohm = with_subcommand(alloc, bohm, serial)?;
-    let explain = describe_explain(alloc)?;
-    let bohm = with_subcommand(alloc, bohm, explain)?;
-    let grants = describe_grants(alloc)?;
-    let bohm = with_subcommand(alloc, bohm, grants)?;
-    let rows = describe_rows(alloc)?;
-    let bohm = with_subcommand(alloc, bohm, rows)?;
+    let bohm = with_runs(alloc, bohm)?;
+    let bohm = with_questions(alloc, bohm)?;
     Ok(bohm.subcommand_required(true))
 }

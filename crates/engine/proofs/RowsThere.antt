@@ -1,6 +1,5 @@
 -- The rows that are there by a store that is right for a log.
-use Rattle.std.proofs.Common.{◌≡◌, ◌≤◌, ◌∙◌, ℕ, ℤ, List, Option, Some, arith, refl, subst, sym}
-use Rattle.std.specs.Prelude.{All}
+use Rattle.std.proofs.Common.{◌≡◌, ◌≤◌, ◌∙◌, ℕ, List, Some, arith, subst, sym}
 use Rattle.std.proofs.lemmas.List.Elements.{All-weaker}
 use Rattle.model_base.specs.declared.row.Key.{Key}
 use Rattle.model_base.specs.declared.statement.Statement.{Statement}

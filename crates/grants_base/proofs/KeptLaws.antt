@@ -5,7 +5,7 @@ use Rattle.std.proofs.lemmas.Bool.{ne_eqb}
 use Rattle.grants_base.specs.Force.{IsGranted, held_by_one, no_grant_slots, no_privilege, privilege_of}
 use Rattle.grants_base.specs.Index.{IsOnly, is_one_of}
 use Rattle.grants_base.specs.declared.force.Given.{Given}
-use Rattle.grants_base.specs.Kept.{IsWide, lost_with_option, no_side, several_of, several_of_one, standing}
+use Rattle.grants_base.specs.Kept.{IsWide, lost_with_option, no_side, one_in_force, several_of, several_of_one}
 use Rattle.std.specs.declared.alloc.Global.{Global}
 use Rattle.std.specs.declared.boxed.Box.{Box}
 use Rattle.grants_base.specs.declared.grantor_set.Granted.{Granted}
@@ -37,7 +37,7 @@ only_of None slot lost lost_with_option is k other = refl
 only_of (Some given) slot lost lost_with_option is k other = apart_from given.slot k (λ same. other (same ∙ is))
 
 pub only_standing : (only : Only) → IsOnly (is_one_of (several_of_one only).privilege.plain.slots) only.given.slot
-only_standing only = only_of (standing only) only.given.slot only.lost (lost_with_option only) (stands only.lost)
+only_standing only = only_of (one_in_force only) only.given.slot only.lost (lost_with_option only) (stands only.lost)
   where
     stands : (lost : Option ℕ) → IfSome (if is_none lost then Some only.given else None) (λ (given : Given). given.slot ≡ only.given.slot)
     stands None = refl

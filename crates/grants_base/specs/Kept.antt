@@ -11,8 +11,8 @@ abbrev pub no_side : Several
 no_side = record { made = []; privilege = no_privilege }
 
 -- the only grant, if it is in force
-abbrev pub standing : Only → Option Given
-standing only = if is_none only.lost then Some only.given else None
+abbrev pub one_in_force : Only → Option Given
+one_in_force only = if is_none only.lost then Some only.given else None
 
 -- the place at which it left force, if it did and has the option
 abbrev pub lost_with_option : Only → Option ℕ
@@ -21,7 +21,7 @@ lost_with_option only = if only.given.option then only.lost else None
 abbrev pub several_of_one : Only → Several
 several_of_one only = record {
   made = only.given.slot ∷ [];
-  privilege = privilege_of (held_by_one (standing only)) no_grant_slots only.lost (lost_with_option only);
+  privilege = privilege_of (held_by_one (one_in_force only)) no_grant_slots only.lost (lost_with_option only);
 }
 
 abbrev pub several_of : Kept → Several

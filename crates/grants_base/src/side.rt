@@ -4,7 +4,7 @@ ghost use Rattle.std.specs.Prelude.{◌-◌, ◌≡◌, ◌++◌, ◌∷◌, [],
 ghost use Rattle.grants_base.specs.Force.{IsGranted, IsWithdrawn, force_of};
 ghost use Rattle.grants_base.specs.GrantorSet.{has_by};
 ghost use Rattle.grants_base.specs.Index.{IsFirst, IsOnly, is_one_of};
-ghost use Rattle.grants_base.specs.Kept.{IsWide, lost_with_option, no_side, several_of, several_of_one, standing};
+ghost use Rattle.grants_base.specs.Kept.{IsWide, lost_with_option, no_side, one_in_force, several_of, several_of_one};
 ghost use Rattle.grants_base.specs.Sides.{AreAscending};
 
 use crate::force::{Given, NextBy, NextInForce, Privilege, slot_by, slot_of};
@@ -55,7 +55,7 @@ impl Model for Side {
 impl Only {
     /// The grant, if it is in force.
     fn standing(&self) -> Option<Given>
-        ensures { result ≡ standing self.now }
+        ensures { result ≡ one_in_force self.now }
     {
         match self.lost {
             Some(_) => None,

@@ -186,8 +186,8 @@ fn any_more(steps: usize) -> Result<(), LineFault>
 }
 
 /// Takes the steps and the deed after the first bar, to the end of the line. The steps go where room is, and after an error some of them
-/// may be there. Those of the line before are written over, as a list is longer only the first time. Most steps of a line are on one table:
-/// the near name is compared first.
+/// may be there. Those of the line before are written over, and what is left of them is cut off at the end. Most steps of a line are on one
+/// table: the near name is compared first.
 pub(crate) fn steps<'a>(
     version: Version,
     words: &mut Words<'a>,

@@ -38,7 +38,7 @@ returns-in-List-clause-text g c =
     let new = g.W.Write.contents c.rows_text.new.writer.inner in
     let name = (rows_named c.in-List.asked).0 in
     subst (λ (task : Task). SaysText (AnswersTask task) log old new c.rows_text.result) (sym c.in-List.is)
-    (subst (λ (place : Option ℕ). SaysText (λ input text. IsRows input name place text) log old new c.rows_text.result) c.place.ensures
+    (subst (λ (place : Option ℕ). SaysText (λ input text. IsRows input name place text) log old new c.rows_text.result) c.place-in-List.ensures
     c.rows_text.ensures.text)
 
 pub returns-in-List-clause-none : goal.returns-in-List-clause-none
@@ -47,7 +47,7 @@ returns-in-List-clause-none g c = λ places is.
     let none = c.rows_text.ensures.none places is in (
       none.0,
       subst (λ (task : Task). IfSome log (TaskLacksPlace task places)) (sym c.in-List.is)
-          (subst (λ (place : Option ℕ). IfSome log (λ input. EndsBefore input place places)) c.place.ensures none.1),
+          (subst (λ (place : Option ℕ). IfSome log (λ input. EndsBefore input place places)) c.place-in-List.ensures none.1),
     )
 
 pub returns-in-List-clause-table : goal.returns-in-List-clause-table
@@ -57,5 +57,5 @@ returns-in-List-clause-table g c = λ is.
     let name = (rows_named c.in-List.asked).0 in (
       none.0,
       subst (λ (task : Task). IfSome log (TaskLacksTable task)) (sym c.in-List.is)
-          (subst (λ (place : Option ℕ). IfSome log (λ input. LacksTable input name place)) c.place.ensures none.1),
+          (subst (λ (place : Option ℕ). IfSome log (λ input. LacksTable input name place)) c.place-in-List.ensures none.1),
     )
