@@ -239,12 +239,8 @@ fn put_granted(
     put_grants(text, names, place, records)
 }
 
-/// Appends the grants in force at a place to the text, as a digraph of Graphviz: a line for each table that was created below the place, in
-/// their order, with its owner as a box, one for PUBLIC as a double circle if an edge leads to it, and then an edge for each grant that was
-/// made below the place and was in force there, in the order of their places. An edge leads from the grantor to the grantee, and its label
-/// is the place of the grant, its kind and its table, and `option` where it has that. What the statement of the place itself took is still
-/// there, dashed, with `taken` and the place. The names are those of the log that made the book; where one is missing there is nothing for
-/// it. After an error, which means out of memory, some of the digraph may be after the text.
+/// Appends the grants in force at a place to the text, as a digraph of Graphviz, by the names of the log that made the book; where a name
+/// is missing there is nothing for it. On `Err`, out of memory, some of it may be after the text.
 pub fn put_graph(
     text: &mut Vec<u8>,
     names: &Catalog,

@@ -45,9 +45,8 @@ pub trait Job {
     // What it may answer to a task. Only the work itself can give.
     ghost answers: { Self → Task → Result (Unit {0}) WorkFault → Type 0 };
 
-    /// Reads the log, as far as it has to, and writes what it says of it. After a fault a beginning of that was written, or nothing; `Read`
-    /// and `Write` come only where the log's reader or the writer failed, `NoSuchPlace` only where the log has that many places and not this
-    /// one, `NoSuchTable` only where no table is of the name, and then nothing is written. Ok comes only where neither failed and the writer was flushed, once, and not written to since.
+    /// Reads the log, as far as it has to, and writes what it says of it. After a fault a beginning of that was written, or nothing; where
+    /// the place or the table isn't there, nothing.
     fn work<T: Threads + Wait + Sync, R: Read, W: Write>(
         &self,
         rt: &T,
