@@ -76,6 +76,7 @@ fn put_decimal(text: &mut Vec<u8>, number: u64) -> Result<(), AllocError>
 }
 
 /// Appends an output to the text.
+#[inline(always)]
 fn put_signed(text: &mut Vec<u8>, number: i64) -> Result<(), AllocError>
     ensures { OnOk result (text.new.items ≡ text.old.items ++ signed_decimal number) }
 {
@@ -84,6 +85,7 @@ fn put_signed(text: &mut Vec<u8>, number: i64) -> Result<(), AllocError>
 }
 
 /// Appends each number after a space. After an error some of them may be appended.
+#[inline(always)]
 pub fn put_numbers(text: &mut Vec<u8>, numbers: &[i64]) -> Result<(), AllocError>
     ensures { OnOk result (text.new.items ≡ text.old.items ++ numbers_text numbers.now) }
 {
@@ -217,6 +219,7 @@ fn put_deed(
 }
 
 /// Writes the outputs and the deed of a transaction that is done. A deed by itself has no outputs.
+#[inline(always)]
 fn put_done(
     text: &mut Vec<u8>,
     catalog: &Catalog,
@@ -264,6 +267,8 @@ pub fn put_cause(text: &mut Vec<u8>, cause: Cause) -> Result<(), AllocError>
 }
 
 /// Writes at which step a body was aborted, and why.
+#[cold]
+#[inline(never)]
 fn put_aborted(text: &mut Vec<u8>, step: u64, reason: Reason) -> Result<(), AllocError>
     ensures { OnOk result (text.new.items ≡ text.old.items ++ (codes " aborted " ++ decimal step ++ codes " " ++ reason_word reason)) }
 {
@@ -274,6 +279,8 @@ fn put_aborted(text: &mut Vec<u8>, step: u64, reason: Reason) -> Result<(), Allo
 }
 
 /// Writes which need a user misses, and why.
+#[cold]
+#[inline(never)]
 fn put_denied(
     text: &mut Vec<u8>,
     tables: &NameTable,
@@ -289,6 +296,7 @@ fn put_denied(
 }
 
 /// Writes what comes after a place.
+#[inline(always)]
 fn put_ending(
     text: &mut Vec<u8>,
     catalog: &Catalog,
@@ -334,6 +342,8 @@ pub fn put_outcome(
 }
 
 /// Writes the report's line for a line that isn't accepted.
+#[cold]
+#[inline(never)]
 fn put_word(text: &mut Vec<u8>, number: u64, word: &str) -> Result<(), AllocError>
     ensures ok { OnOk result (text.new.items ≡ text.old.items ++ refused_text number word.now) }
     ensures full { OnErr result (LacksRoom text.old (refused_text number word.now)) }
