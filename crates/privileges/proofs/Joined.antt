@@ -174,3 +174,7 @@ are_spans book owners deeds user need spans shows other apart told = record {
       (λ entry. ap (λ b. b && gives entry.grant user need) (within-force place entry)) book.records
       ∙ sym (told place);
 }
+
+-- each begins below what lies above the last record
+pub begun_by : (spans : List Span) (last place : ℕ) → last < place → All (BeginsBy last) spans → All (λ (span : Span). span.from < place) spans
+begun_by spans last place less all = All-weaker (BeginsBy last) (λ (span : Span). span.from < place) (λ span by. omega (arith, by, less)) spans all

@@ -3,6 +3,7 @@
 ghost use Rattle.std.specs.Prelude.{◌≡◌, ◌<◌, ◌≤◌, ◌||◌, false, ℕ, All, IfOk, IfSome, List, OnOk, length};
 ghost use Rattle.std.specs.List.{list_any};
 ghost use Rattle.model_base.specs.declared.deed.Deed.{Deed};
+ghost use Rattle.model_base.specs.declared.deed.Record.{Record};
 ghost use Rattle.model_base.specs.Privileges.{owns};
 ghost use Rattle.grants_base.specs.Book.{ShowsBook};
 ghost use Rattle.privileges.specs.declared.spanning.Span.{Span};
@@ -71,11 +72,14 @@ fn join(spans: &mut Vec<Span>, span: Span) -> Result<(), AllocError>
     Ok(())
 }
 
-/// The spans in which a user who doesn't own the table held what is needed, one after the other. It goes once through the records.
+/// The spans in which a user who doesn't own the table held what is needed, one after the other; each begins where a grant was made. It goes
+/// once through the records.
 pub fn spans(alloc: Global, book: &Book, user: User, need: &Need) -> Result<Vec<Span>, AllocError>
     requires covered { need.now.table < length book.now.tables }
-    ensures { IfOk result (λ found. (owners : List ℕ) (deeds : List Deed) → ShowsBook book.now owners deeds
+    ensures spans { IfOk result (λ found. (owners : List ℕ) (deeds : List Deed) → ShowsBook book.now owners deeds
         → owns owners user need.now.table ≡ false → AreSpans owners deeds user need.now found.items) }
+    ensures begun { IfOk result (λ found. (place : ℕ) → All (λ (entry : Record). entry.grant.place < place) book.now.records
+        → All (λ (span : Span). span.from < place) found.items) }
 {
     let mut found = Vec::new(alloc);
     for record in book.records() {
