@@ -150,6 +150,25 @@ holds-all owners deeds user need =
     ap (λ b. owns owners user need.table || b) (any_either user need (kept owners deeds))
     ∙ owned_or (owns owners user need.table) (list_any (λ grant. gives_by_name grant user need) (kept owners deeds)) (is_public owners deeds need)
 
+-- and the option by name
+everyone-none : (grant : Grant) (need : Need) → need.option ≡ true → gives_everyone grant need ≡ false
+everyone-none grant need option = rw option refl
+
+public-none : (need : Need) (grants : List Grant) → need.option ≡ true → list_any (λ grant. gives_everyone grant need) grants ≡ false
+public-none need [] option = refl
+public-none need (grant ∷ grants) option = rw (everyone-none grant need option) (public-none need grants option)
+
+pub holds-option : (owners : List ℕ) (deeds : List Deed) (user : ℕ) (need : Need) → need.option ≡ true
+    → holds owners deeds user need ≡ (owns owners user need.table || is_holder owners deeds need user)
+holds-option owners deeds user need option =
+    holds-all owners deeds user need
+    ∙ ap (λ b. owns owners user need.table || (is_holder owners deeds need user || b)) (public-none need (kept owners deeds) option)
+    ∙ ap (λ b. owns owners user need.table || b) (or_false (is_holder owners deeds need user))
+  where
+    or_false : (b : Bool) → (b || false) ≡ b
+    or_false true = refl
+    or_false false = refl
+
 -- what is held by who doesn't own the table is given by a record in force
 pub holds-given : (book : Entries) (owners : List ℕ) (deeds : List Deed) (place user : ℕ) (need : Need) → ShowsBook book owners deeds
     → owns owners user need.table ≡ false

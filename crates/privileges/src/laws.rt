@@ -1,6 +1,6 @@
 //! What holds of all holders and spans.
 
-ghost use Rattle.std.specs.Prelude.{◌≡◌, ◌≤◌, ◌||◌, ℕ, List, length};
+ghost use Rattle.std.specs.Prelude.{◌≡◌, ◌≤◌, ◌||◌, ℕ, true, List, length};
 ghost use Rattle.std.specs.List.{list_any};
 ghost use Rattle.model_base.specs.declared.deed.Deed.{Deed};
 ghost use Rattle.model_base.specs.declared.deed.Need.{Need};
@@ -11,11 +11,14 @@ ghost use Rattle.privileges.specs.declared.spanning.Span.{Span};
 ghost use Rattle.privileges.specs.Holders.{is_holder, is_public};
 ghost use Rattle.privileges.specs.Spans.{AreSpans, is_within};
 
-/// A user holds a privilege exactly if the user owns the table, is a holder by name, or a grant to PUBLIC gives it.
+/// A user holds a privilege exactly if the user owns the table, is a holder by name, or a grant to PUBLIC gives it. None to PUBLIC gives the
+/// option.
 pub fn holders_are_all()
-    ensures { (owners : List ℕ) (deeds : List Deed) (user : ℕ) (need : Need)
+    ensures all { (owners : List ℕ) (deeds : List Deed) (user : ℕ) (need : Need)
         → holds owners deeds user need
         ≡ (owns owners user need.table || (is_holder owners deeds need user || is_public owners deeds need)) }
+    ensures option { (owners : List ℕ) (deeds : List Deed) (user : ℕ) (need : Need) → need.option ≡ true
+        → holds owners deeds user need ≡ (owns owners user need.table || is_holder owners deeds need user) }
 {}
 
 /// The spans of a whole log tell of each of its places whether a need was held there.
