@@ -5,9 +5,13 @@ use Rattle.line_io.specs.Faults.{engine_fault_text}
 use Rattle.line_io.specs.declared.fault.EngineFault.{EngineFault}
 use Rattle.audit_text.specs.declared.fault.WorkFault.{WorkFault}
 
--- a fault of an answer, which has no settings that could be bad and starts no thread
+-- a fault of an answer that is asked of a user, which has no settings that could be bad and starts no thread
+abbrev pub IsOfUser : WorkFault → Type 0
+IsOfUser fault = (fault ≢ WorkFault.Run EngineFault.BadSettings) × (fault ≢ WorkFault.Run EngineFault.Spawn)
+
+-- and one of an answer that is asked of no user
 abbrev pub IsOfAnswer : WorkFault → Type 0
-IsOfAnswer fault = (fault ≢ WorkFault.Run EngineFault.BadSettings) × (fault ≢ WorkFault.Run EngineFault.Spawn)
+IsOfAnswer fault = IsOfUser fault × (fault ≢ WorkFault.NoSuchUser)
 
 -- and one of an answer that is asked of no table
 abbrev pub IsOfPlace : WorkFault → Type 0
@@ -27,3 +31,4 @@ abbrev pub work_fault_text : WorkFault → List ℕ
 work_fault_text (WorkFault.Run fault) = engine_fault_text fault
 work_fault_text (WorkFault.NoSuchPlace places) = codes "no such place: the log has " ++ extent_text places
 work_fault_text WorkFault.NoSuchTable = codes "no such table"
+work_fault_text WorkFault.NoSuchUser = codes "no such user"

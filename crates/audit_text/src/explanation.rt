@@ -28,8 +28,9 @@ fn put_grants(
     put_records(text, engine.log().catalog(), names, &grantees)
 }
 
-/// Writes how a need is held, or since when it isn't and by which grants it was held until then.
-fn put_shown(
+/// Appends how a need is held, or since when it isn't and by which grants it was held until then. After an error, out of memory, some of
+/// it may be appended.
+pub fn put_shown(
     alloc: Global,
     text: &mut Vec<u8>,
     engine: &Engine,

@@ -19,6 +19,8 @@ pub enum WorkFault {
     NoSuchPlace(u64),
     /// No accepted statement before the place creates the table.
     NoSuchTable,
+    /// No accepted statement names the user.
+    NoSuchUser,
 }
 
 /// Which places a log has that has this many.
@@ -67,6 +69,7 @@ impl fmt::Display for WorkFault {
                 write!(f, "no such place: the log has {extent}")
             }
             WorkFault::NoSuchTable => f.write_str("no such table"),
+            WorkFault::NoSuchUser => f.write_str("no such user"),
         }
     }
 }

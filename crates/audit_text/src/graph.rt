@@ -17,11 +17,7 @@ use sequencer::{Catalog, NameTable};
 use std::alloc::AllocError;
 
 /// Writes the name of this number; nothing where there is none.
-pub(crate) fn put_name(
-    text: &mut Vec<u8>,
-    names: &NameTable,
-    number: usize,
-) -> Result<(), AllocError>
+pub fn put_name(text: &mut Vec<u8>, names: &NameTable, number: usize) -> Result<(), AllocError>
     ensures { OnOk result (text.new.items ≡ text.old.items ++ table_name names.now number) }
 {
     if number >= names.len() {
@@ -82,7 +78,7 @@ fn put_tables(
 }
 
 /// Writes a place, or another number.
-pub(crate) fn put_place(text: &mut Vec<u8>, place: Place) -> Result<(), AllocError>
+pub fn put_place(text: &mut Vec<u8>, place: Place) -> Result<(), AllocError>
     ensures { OnOk result (text.new.items ≡ text.old.items ++ decimal place) }
 {
     let mut buffer = Buffer::new();

@@ -23,10 +23,11 @@ mod rows;
 mod writing;
 
 pub use explaining::explain_text;
-pub use explanation::put_explanation;
+pub use explanation::{put_explanation, put_shown};
 pub use fault::WorkFault;
-pub use graph::put_graph;
+pub use graph::{put_graph, put_name, put_place};
 pub use graph_laws::edges_are_grants_in_force;
-pub use listing::rows_text;
+pub use listing::{rows_text, run_before};
 pub use picturing::grants_text;
 pub use question::Question;
+pub use writing::write_text;

@@ -47,7 +47,7 @@ fn run_front<R: Read>(
 }
 
 /// Runs what stands before a place of a log, or all of it. `NoSuchPlace` says that the log ends before the place.
-fn run_before<R: Read>(
+pub fn run_before<R: Read>(
     alloc: Global,
     reader: &mut Counted<R>,
     limit: Option<Place>,

@@ -8,7 +8,7 @@ use line_io::{Counted, WriteFault, flush, write_out, writing_laws};
 use std::io::Write;
 
 /// Writes a text, and flushes the writer. After an error a front of the text was written.
-pub(crate) fn write_text<W: Write>(writer: &mut Counted<W>, text: &[u8]) -> Result<(), WriteFault>
+pub fn write_text<W: Write>(writer: &mut Counted<W>, text: &[u8]) -> Result<(), WriteFault>
     ensures ok { OnOk result (Appends (W.contents writer.old.inner) (W.contents writer.new.inner) text.now) }
     ensures front { AppendsFront (W.contents writer.old.inner) (W.contents writer.new.inner) text.now }
     ensures same { OnOk result (writer.new.errors ≡ writer.old.errors) }
