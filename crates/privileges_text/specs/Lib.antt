@@ -1,0 +1,4 @@
+pub mod Ways
+pub mod HoldersText
+pub mod HistoryText
+pub mod Questions
