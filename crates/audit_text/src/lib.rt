@@ -30,4 +30,5 @@ pub use graph_laws::edges_are_grants_in_force;
 pub use listing::{rows_text, run_before};
 pub use picturing::grants_text;
 pub use question::Question;
+pub use rows::put_rows_there;
 pub use writing::write_text;

@@ -76,7 +76,7 @@ fn table_named(tables: &NameTable, name: Option<&str>) -> Result<Option<Table>, 
 }
 
 /// Writes the rows that are there at the end of a log that is run into an empty text: those of the table of a name, or of all.
-pub(crate) fn put_rows_there(
+pub fn put_rows_there(
     alloc: Global,
     text: &mut Vec<u8>,
     engine: &Engine,
