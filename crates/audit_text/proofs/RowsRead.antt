@@ -24,12 +24,12 @@ use Rattle.audit_text.specs.declared.fault.WorkFault.{WorkFault}
 use Rattle.audit_text.proofs.Explained.{all-read}
 
 -- the lines of which the first readings are
-record AreFront (first : Bool) (version : Version) (lines : List (List ℕ)) (earlier later : List ParsedLine) : Type 0 where
-  front : List (List ℕ)
-  rest : List (List ℕ)
-  parts : lines ≡ front ++ rest
-  parsed : AreParsedFrom first version front earlier
-  none : later ≡ [] → rest ≡ []
+pub record AreFront (first : Bool) (version : Version) (lines : List (List ℕ)) (earlier later : List ParsedLine) : Type 0 where
+  pub front : List (List ℕ)
+  pub rest : List (List ℕ)
+  pub parts : lines ≡ front ++ rest
+  pub parsed : AreParsedFrom first version front earlier
+  pub none : later ≡ [] → rest ≡ []
 
 none-behind : (first : Bool) (version : Version) (lines : List (List ℕ)) (later : List ParsedLine) → AreParsedFrom first version lines later → later ≡ []
     → lines ≡ []
@@ -37,7 +37,7 @@ none-behind first version [] later are none = refl
 none-behind first version (line ∷ lines) [] are none = absurd are
 none-behind first version (line ∷ lines) (reading ∷ later) are none = cc
 
-front-of : (first : Bool) (version : Version) (lines : List (List ℕ)) (earlier later : List ParsedLine)
+pub front-of : (first : Bool) (version : Version) (lines : List (List ℕ)) (earlier later : List ParsedLine)
     → AreParsedFrom first version lines (earlier ++ later) → AreFront first version lines earlier later
 front-of first version lines [] later are = record {
   front = [];

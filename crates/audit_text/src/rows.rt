@@ -1,6 +1,6 @@
 //! The rows that are there at the end of a log that is run, as text.
 
-ghost use Rattle.std.specs.Prelude.{◌≡◌, ◌++◌, ◌⊎◌, [], IfErr, IfOk, OnOk, length, option_map};
+ghost use Rattle.std.specs.Prelude.{◌≡◌, ◌++◌, ◌⊎◌, [], Err, IfErr, IfOk, OnOk, length, option_map};
 ghost use Rattle.line_io.specs.declared.fault.EngineFault.{EngineFault};
 ghost use Rattle.engine.specs.Engine.{finished};
 ghost use Rattle.audit_text.specs.RowsText.{HasNoTable, IsTableNamed, ListsRows, is_of_table, key_text, row_text, rows_text};
@@ -63,6 +63,7 @@ fn put_rows(
 /// The table of a name, if one is asked for. An error where no table has the name.
 fn table_named(tables: &NameTable, name: Option<&str>) -> Result<Option<Table>, WorkFault>
     ensures named { IfOk result (λ table. IsTableNamed tables.now (option_map (λ name. name.now) name.entry) table) }
+    ensures there { OnOk result (HasNoTable tables.now (option_map (λ name. name.now) name.entry) → ⊥) }
     ensures none { IfErr result (λ fault. (fault ≡ WorkFault.NoSuchTable)
         × HasNoTable tables.now (option_map (λ name. name.now) name.entry)) }
 {
@@ -87,6 +88,8 @@ pub fn put_rows_there(
     ensures rows { OnOk result (ListsRows engine.now.log (option_map (λ name. name.now) name.entry) text.new.items) }
     ensures none { IfErr result (λ fault. (fault ≡ WorkFault.Run EngineFault.NoMemory)
         ⊎ ((fault ≡ WorkFault.NoSuchTable) × HasNoTable engine.now.log.names.tables (option_map (λ name. name.now) name.entry))) }
+    ensures lacking { HasNoTable engine.now.log.names.tables (option_map (λ name. name.now) name.entry)
+        → result ≡ Err WorkFault.NoSuchTable }
 {
     let tables = engine.log().catalog().tables();
     let table = table_named(tables, name)?;
