@@ -1,5 +1,6 @@
 pub mod Lines
 pub mod FedTexts
 pub mod FedExplained
+pub mod FedListed
 pub mod Feeding
 pub mod Counts

@@ -1,9 +1,10 @@
 -- How far a run is that is fed piece by piece.
-use Rattle.std.specs.Prelude.{◌≡◌, ◌≤◌, ◌<◌, ◌++◌, [], ℕ, false, true, List, drop, length, take}
+use Rattle.std.specs.Prelude.{◌≡◌, ◌≤◌, ◌<◌, ◌++◌, [], ℕ, false, true, List, Option, Some, drop, length, take}
 use Rattle.line_io.specs.Lines.{HasLine}
 use Rattle.line_io.specs.declared.limits.TheConstants.{KEPT_BYTES}
 use Rattle.report.specs.Report.{IsReport}
 use Rattle.audit_text.specs.Answer.{IsExplanation}
+use Rattle.audit_text.specs.RowsBefore.{IsRows, LacksTable}
 use Rattle.batched_text.specs.Batching.{IsBatched, next_line}
 use Rattle.batched_text.specs.declared.line_run.LineRun.{LineRun}
 use Rattle.fed_run.specs.declared.fed.FedRun.{FedRun}
@@ -59,6 +60,17 @@ pub record TakesBytes (input : List ℕ) (old new : FedRun) (used_old used_new :
 abbrev pub TextExplains : FedRun → ℕ → List ℕ → Type 0
 TextExplains run place text = (input written future : List ℕ) → IsFed run input written → MayCome run future
     → IsExplanation (input ++ future) (record { place = place; is_checked = false }) text
+
+-- the text has the rows that are there, of the table of the name or of all, whatever comes: those after the reported places of each text that
+-- begins with what was taken
+abbrev pub TextListsRows : FedRun → Option (List ℕ) → List ℕ → Type 0
+TextListsRows run name text = (input written future : List ℕ) → IsFed run input written → MayCome run future
+    → IsRows (input ++ future) name (Some run.run.reported) text
+
+-- no reported place of such a text creates a table of the name
+abbrev pub TextLacksTable : FedRun → Option (List ℕ) → Type 0
+TextLacksTable run name = (input written future : List ℕ) → IsFed run input written → MayCome run future
+    → LacksTable (input ++ future) name (Some run.run.reported)
 
 -- no line was reported or waits, none has begun, no statement was accepted, and the text wasn't ended
 pub record IsUnfed (run : FedRun) : Type 0 where

@@ -1,9 +1,11 @@
-//! Why a run takes no more.
+//! Why a run takes no more, or doesn't say what is there.
 
 ghost use Rattle.std.specs.Prelude.{◌≡◌};
 ghost use Rattle.fed_run.specs.declared.fault.FeedFault.TheVariants.{NoMemory};
-ghost use Rattle.fed_run.specs.Faults.{feed_fault_text};
+ghost use Rattle.fed_run.specs.declared.fault.AskFault.{AskFault};
+ghost use Rattle.fed_run.specs.Faults.{ask_fault_of, ask_fault_text, feed_fault_text};
 
+use audit_text::WorkFault;
 use line_io::EngineFault;
 use std::alloc::AllocError;
 use std::fmt;
@@ -48,5 +50,42 @@ impl From<EngineFault> for FeedFault {
 
     fn from(_fault: EngineFault) -> FeedFault {
         FeedFault::NoMemory
+    }
+}
+
+/// Why a run doesn't say what is there.
+#[derive(Clone, Copy, Debug, PartialEq, Eq, Error)]
+pub enum AskFault {
+    /// Out of memory.
+    NoMemory,
+    /// No reported statement creates the table.
+    NoSuchTable,
+    /// Lines wait to be run, since a call of `step` or `finish` ended in a fault: make it again first.
+    Waiting,
+}
+
+impl fmt::Display for AskFault {
+    ghost use Rattle.std.specs.Prelude.{Some};
+
+    ghost output = { λ fault. Some (ask_fault_text fault) };
+
+    fn fmt<W: fmt::Write>(&self, f: &mut fmt::Formatter<W>) -> fmt::Result {
+        f.write_str(match self {
+            AskFault::NoMemory => "out of memory",
+            AskFault::NoSuchTable => "no such table",
+            AskFault::Waiting => "lines wait to be run",
+        })
+    }
+}
+
+/// The rows of a run are listed in memory: where the table is there, only that may run out.
+impl From<WorkFault> for AskFault {
+    ghost from_gives = { λ fault e. e ≡ ask_fault_of fault };
+
+    fn from(fault: WorkFault) -> AskFault {
+        match fault {
+            WorkFault::NoSuchTable => AskFault::NoSuchTable,
+            _ => AskFault::NoMemory,
+        }
     }
 }

@@ -1,17 +1,19 @@
 //! A run that is fed piece by piece.
 
-ghost use Rattle.std.specs.Prelude.{◌≡◌, ◌≤◌, ◌<◌, ◌+◌, ◌++◌, ◌^◌, ◌↔◌, ◌==◌, ℕ, [], List, Err, IfErr, IfOk, OnErr, OnOk, false, true, length, take};
+ghost use Rattle.std.specs.Prelude.{◌≡◌, ◌≤◌, ◌<◌, ◌+◌, ◌++◌, ◌^◌, ◌↔◌, ◌==◌, ℕ, [], List, Err, IfErr, IfOk, OnErr, OnOk, false, true, length, option_map, take};
 ghost use Rattle.line_io.specs.declared.limits.TheConstants.{KEPT_BYTES};
 ghost use Rattle.report.specs.Report.{IsReport};
 ghost use Rattle.std.proofs.Props.{props};
+ghost use Rattle.engine.specs.Engine.{finished};
 ghost use Rattle.batched_text.specs.Batching.{IsSteady};
 ghost use Rattle.batched_text.specs.History.{last_places, plan_in_order};
 ghost use Rattle.fed_run.specs.Kept.{kept-prop};
 
-use crate::fault::FeedFault;
+use crate::fault::{AskFault, FeedFault};
 use crate::keeping::keep_more;
-use audit_text::put_explanation;
+use audit_text::{put_explanation, put_rows_there};
 use batched_text::{Alone, LineRun, Runner, put_place};
+use engine::Engine;
 use explain::{ExplainFault, explain, explanations_name_earlier_grants};
 use line_io::{KEPT_BYTES, cut_line};
 use log_text::LineBuffers;
@@ -50,7 +52,8 @@ impl FedRun {
     ghost use Rattle.bohm_base.specs.Collecting.{ReadsAs};
     ghost use Rattle.batched_text.specs.Batching.{HasRoomForLine, Takes, TakesNothing, next_line};
     ghost use Rattle.batched_text.specs.Foretold.{log_names};
-    ghost use Rattle.fed_run.specs.Stands.{Feeds, Gives, IsFed, IsGivenOut, IsUnfed, KeepsLast, TakesBytes, TextExplains, unsent};
+    ghost use Rattle.fed_run.specs.Stands.{Feeds, Gives, IsFed, IsGivenOut, IsUnfed, KeepsLast, TakesBytes, TextExplains, TextLacksTable, TextListsRows, unsent};
+    ghost use Rattle.audit_text.specs.RowsText.{HasNoTable};
 
     /// Before the first byte. It doesn't allocate.
     pub fn new(alloc: Global) -> FedRun
@@ -117,6 +120,42 @@ impl FedRun {
         let found = explain(alloc, engine, place)?;
         put_place(alloc, text, engine, place)?;
         put_explanation(alloc, text, engine, &found)?;
+        Ok(())
+    }
+
+    /// The engine, which has run all places where no line waits.
+    fn engine_run(&self) -> Result<&Engine, AskFault>
+        ensures engine { IfOk result (λ engine. engine.now ≡ self.now.run.engine) }
+        ensures all { IfOk result (λ engine. finished engine.now ≡ length engine.now.log.statements) }
+        ensures none { OnOk result (self.now.run.waiting.items ≡ []) }
+        ensures waiting { IfErr result (λ fault. (fault ≡ AskFault.Waiting) × (0 < length self.now.run.waiting.items)) }
+    {
+        if self.run.waiting() > 0 {
+            return Err(AskFault::Waiting);
+        }
+        Ok(self.run.engine())
+    }
+
+    /// The rows that are there after the reported places, of the table of a name or of all, as `audit_text::rows_text` writes them, appended to
+    /// an empty text. After `NoMemory` some of them may be in the text.
+    pub fn rows(
+        &self,
+        alloc: Global,
+        name: Option<&str>,
+        text: &mut Vec<u8>,
+    ) -> Result<(), AskFault>
+        requires { text.old.items ≡ [] }
+        // They are the rows of each text that begins with what was taken.
+        ensures told { OnOk result (TextListsRows self.now (option_map (λ name. name.now) name.entry) text.new.items) }
+        // NoSuchTable comes exactly where no reported statement creates a table of the name.
+        ensures none { (result ≡ Err AskFault.NoSuchTable) ↔ ((self.now.run.waiting.items ≡ [])
+            × HasNoTable self.now.run.engine.log.names.tables (option_map (λ name. name.now) name.entry)) }
+        ensures lacks { result ≡ Err AskFault.NoSuchTable → TextLacksTable self.now (option_map (λ name. name.now) name.entry) }
+        // Lines wait only where a call of `step` or `finish` ended in a fault.
+        ensures waiting { (result ≡ Err AskFault.Waiting) ↔ (0 < length self.now.run.waiting.items) }
+    {
+        let engine = self.engine_run()?;
+        put_rows_there(alloc, text, engine, name)?;
         Ok(())
     }
 

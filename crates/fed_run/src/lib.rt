@@ -9,6 +9,6 @@ mod fed;
 mod keeping;
 mod laws;
 
-pub use fault::FeedFault;
+pub use fault::{AskFault, FeedFault};
 pub use fed::{FedRun, Step};
 pub use laws::what_was_given_begins_the_report;
