@@ -16,6 +16,7 @@ FollowsFault (ProgramFault.Work (WorkFault.Run EngineFault.Write)) name text = M
 FollowsFault (ProgramFault.Work (WorkFault.Run EngineFault.NoMemory)) name text = text ≡ []
 FollowsFault (ProgramFault.Work (WorkFault.NoSuchPlace places)) name text = text ≡ []
 FollowsFault (ProgramFault.Work WorkFault.NoSuchTable) name text = text ≡ []
+FollowsFault (ProgramFault.Work WorkFault.NoSuchUser) name text = text ≡ []
 FollowsFault (ProgramFault.Work (WorkFault.Run EngineFault.BadSettings)) name text = text ≡ []
 FollowsFault (ProgramFault.Work (WorkFault.Run EngineFault.Spawn)) name text = text ≡ []
 FollowsFault (ProgramFault.Usage usage) name text = text ≡ []

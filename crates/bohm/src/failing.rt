@@ -128,9 +128,9 @@ fn more_of(alloc: Global, fault: &ProgramFault, source: Source<'_>, reasons: &Re
         ProgramFault::Work(
             WorkFault::Run(EngineFault::NoMemory | EngineFault::BadSettings | EngineFault::Spawn),
         ) => String::new(alloc),
-        ProgramFault::Work(WorkFault::NoSuchPlace(_) | WorkFault::NoSuchTable) => {
-            String::new(alloc)
-        }
+        ProgramFault::Work(
+            WorkFault::NoSuchPlace(_) | WorkFault::NoSuchTable | WorkFault::NoSuchUser,
+        ) => String::new(alloc),
         ProgramFault::Usage(_) | ProgramFault::Open(_) => String::new(alloc),
     }
 }

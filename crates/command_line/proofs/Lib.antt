@@ -1,3 +1,4 @@
+pub mod Lacking
 pub mod Numbers
 pub mod Telling
 pub mod Told

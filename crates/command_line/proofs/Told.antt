@@ -2,10 +2,11 @@
 use Rattle.std.proofs.Common.{◌≡◌, ℕ, Bool, List, None, Option, Some, false, inl, inr, subst, true}
 use Rattle.std.specs.Prelude.{IfSome, MatchBool}
 use Rattle.audit_text.specs.Texts.{BeginsText, WritesText}
+use Rattle.audit_text.specs.declared.fault.WorkFault.{WorkFault}
 use Rattle.batched_text.specs.declared.settings.Arrival.{Arrival}
 use Rattle.batched_text.specs.declared.settings.Settings.{Settings}
-use Rattle.command_line.specs.Running.{AnswersCommand, IsInOrder, IsTaskOf, LacksItsTable, LacksPlace}
-use Rattle.command_line.specs.Tasks.{AnswersTask, TaskLacksPlace, TaskLacksTable}
+use Rattle.command_line.specs.Running.{AnswersCommand, CommandLacks, IsInOrder, IsTaskOf}
+use Rattle.command_line.specs.Tasks.{AnswersTask, TaskLacks}
 use Rattle.command_line.specs.Ways.{is_alone}
 use Rattle.command_line.specs.declared.command_words.Command.{Command}
 use Rattle.command_line.specs.declared.options.Choice.{Choice}
@@ -30,6 +31,8 @@ answers_as arrival (Command.Serial source) task is input text says = subst (λ (
 answers_as arrival (Command.Explain source question) task is input text says = subst (λ (t : Task). AnswersTask t input text) is says
 answers_as arrival (Command.Grants source limit) task is input text says = subst (λ (t : Task). AnswersTask t input text) is says
 answers_as arrival (Command.Rows source which) task is input text says = subst (λ (t : Task). AnswersTask t input text) is says
+answers_as arrival (Command.Holders source which) task is input text says = subst (λ (t : Task). AnswersTask t input text) is says
+answers_as arrival (Command.History source which) task is input text says = subst (λ (t : Task). AnswersTask t input text) is says
 
 pub writes_as : (arrival : Arrival) (command : Command) (task : Task) (log old new : Option (List ℕ)) → IsTaskOf arrival command task
     → WritesText (AnswersTask task) log old new → WritesText (AnswersCommand command) log old new
@@ -44,33 +47,20 @@ begins_as arrival command task (Some input) old new is begun = elim begun [
   | inr some ↦ inr (some.0, (answers_as arrival command task is input some.0 some.1.0, some.1.1))
 ]
 
-lacks_in : (arrival : Arrival) (command : Command) (task : Task) → IsTaskOf arrival command task → (places : ℕ) (input : List ℕ) → TaskLacksPlace task places input
-    → LacksPlace command places input
-lacks_in arrival (Command.Run source settings ahead) task is places input lacks =
-    of_run (λ _. LacksPlace (Command.Run source settings ahead) places input) settings arrival ahead task is
-    (λ threads same. subst (λ (t : Task). TaskLacksPlace t places input) same lacks)
-    (λ same. subst (λ (t : Task). TaskLacksPlace t places input) same lacks)
-lacks_in arrival (Command.Serial source) task is places input lacks = subst (λ (t : Task). TaskLacksPlace t places input) is lacks
-lacks_in arrival (Command.Explain source question) task is places input lacks = subst (λ (t : Task). TaskLacksPlace t places input) is lacks
-lacks_in arrival (Command.Grants source limit) task is places input lacks = subst (λ (t : Task). TaskLacksPlace t places input) is lacks
-lacks_in arrival (Command.Rows source which) task is places input lacks = subst (λ (t : Task). TaskLacksPlace t places input) is lacks
+lacks_in : (arrival : Arrival) (command : Command) (task : Task) → IsTaskOf arrival command task → (fault : WorkFault) (input : List ℕ)
+    → TaskLacks task fault input → CommandLacks command fault input
+lacks_in arrival (Command.Run source settings ahead) task is fault input lacks =
+    of_run (λ _. CommandLacks (Command.Run source settings ahead) fault input) settings arrival ahead task is
+    (λ threads same. subst (λ (t : Task). TaskLacks t fault input) same lacks) (λ same. subst (λ (t : Task). TaskLacks t fault input) same lacks)
+lacks_in arrival (Command.Serial source) task is fault input lacks = subst (λ (t : Task). TaskLacks t fault input) is lacks
+lacks_in arrival (Command.Explain source question) task is fault input lacks = subst (λ (t : Task). TaskLacks t fault input) is lacks
+lacks_in arrival (Command.Grants source limit) task is fault input lacks = subst (λ (t : Task). TaskLacks t fault input) is lacks
+lacks_in arrival (Command.Rows source which) task is fault input lacks = subst (λ (t : Task). TaskLacks t fault input) is lacks
+lacks_in arrival (Command.Holders source which) task is fault input lacks = subst (λ (t : Task). TaskLacks t fault input) is lacks
+lacks_in arrival (Command.History source which) task is fault input lacks = subst (λ (t : Task). TaskLacks t fault input) is lacks
 
-pub lacks_as : (arrival : Arrival) (command : Command) (task : Task) (places : ℕ) (log : Option (List ℕ)) → IsTaskOf arrival command task → IfSome log (TaskLacksPlace task places)
-    → IfSome log (LacksPlace command places)
-lacks_as arrival command task places None is lacks = tt
-lacks_as arrival command task places (Some input) is lacks = lacks_in arrival command task is places input lacks
-
-tables_in : (arrival : Arrival) (command : Command) (task : Task) → IsTaskOf arrival command task → (input : List ℕ) → TaskLacksTable task input
-    → LacksItsTable command input
-tables_in arrival (Command.Run source settings ahead) task is input lacks =
-    of_run (λ _. LacksItsTable (Command.Run source settings ahead) input) settings arrival ahead task is
-    (λ threads same. subst (λ (t : Task). TaskLacksTable t input) same lacks) (λ same. subst (λ (t : Task). TaskLacksTable t input) same lacks)
-tables_in arrival (Command.Serial source) task is input lacks = subst (λ (t : Task). TaskLacksTable t input) is lacks
-tables_in arrival (Command.Explain source question) task is input lacks = subst (λ (t : Task). TaskLacksTable t input) is lacks
-tables_in arrival (Command.Grants source limit) task is input lacks = subst (λ (t : Task). TaskLacksTable t input) is lacks
-tables_in arrival (Command.Rows source which) task is input lacks = subst (λ (t : Task). TaskLacksTable t input) is lacks
-
-pub lacks_table_as : (arrival : Arrival) (command : Command) (task : Task) (log : Option (List ℕ)) → IsTaskOf arrival command task
-    → IfSome log (TaskLacksTable task) → IfSome log (LacksItsTable command)
-lacks_table_as arrival command task None is lacks = tt
-lacks_table_as arrival command task (Some input) is lacks = tables_in arrival command task is input lacks
+pub lacks_as : (arrival : Arrival) (command : Command) (task : Task) (found fault : WorkFault) (log : Option (List ℕ)) → IsTaskOf arrival command task → found ≡ fault
+    → IfSome log (TaskLacks task found) → IfSome log (CommandLacks command fault)
+lacks_as arrival command task found fault None is same lacks = tt
+lacks_as arrival command task found fault (Some input) is same lacks =
+    lacks_in arrival command task is fault input (subst (λ (it : WorkFault). TaskLacks task it input) same lacks)

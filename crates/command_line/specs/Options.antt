@@ -86,9 +86,9 @@ abbrev pub limit_by : Choice → Limit
 limit_by Choice.Usual = Limit.End
 limit_by (Choice.Given place) = Limit.Before place
 
--- the limit of `grants`, if its place is within the limits
-abbrev pub limit_among : List Row → Option Limit
-limit_among rows = option_map limit_by (choice_among (codes "PLACE") 0 MOST_PLACE rows)
+-- the limit that is asked for, if its place is at most this one
+abbrev pub limit_among : ℕ → List Row → Option Limit
+limit_among most rows = option_map limit_by (choice_among (codes "PLACE") 0 most rows)
 
 -- the place of a limit, if one is named
 abbrev pub place_named : Limit → Option ℕ

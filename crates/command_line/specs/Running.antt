@@ -1,5 +1,5 @@
 -- How the work on a log ends.
-use Rattle.std.specs.Prelude.{◌≡◌, ◌≤◌, ◌⊎◌, ℕ, Err, IsSome, List, MatchBool, Ok, Option, Result}
+use Rattle.std.specs.Prelude.{◌≡◌, ◌≤◌, ◌⊎◌, ℕ, Err, IsSome, List, MatchBool, None, Ok, Option, Result, Some}
 use Rattle.line_io.specs.declared.fault.EngineFault.{EngineFault}
 use Rattle.report.specs.Report.{IsReport}
 use Rattle.audit_text.specs.Answer.{HasNoPlace, IsExplanation}
@@ -7,7 +7,9 @@ use Rattle.audit_text.specs.Picture.{EndsBefore, IsPicture}
 use Rattle.audit_text.specs.RowsBefore.{IsRows, LacksTable}
 use Rattle.audit_text.specs.declared.fault.WorkFault.{WorkFault}
 use Rattle.batched_text.specs.declared.settings.Arrival.{Arrival}
+use Rattle.privileges_text.specs.Questions.{IsHistory, IsHolders, LacksUser}
 use Rattle.command_line.specs.Options.{IfGiven, place_named, rows_named}
+use Rattle.command_line.specs.Tasks.{NoPlace, SaysLack}
 use Rattle.command_line.specs.Ways.{is_alone}
 use Rattle.command_line.specs.Words.{path_of}
 use Rattle.command_line.specs.declared.command_words.Command.{Command}
@@ -23,6 +25,8 @@ path_in (Command.Serial source) = path_of source
 path_in (Command.Explain source question) = path_of source
 path_in (Command.Grants source limit) = path_of source
 path_in (Command.Rows source which) = path_of source
+path_in (Command.Holders source which) = path_of source
+path_in (Command.History source which) = path_of source
 
 -- the text answers a command about the bytes of its log
 abbrev pub AnswersCommand : Command → List ℕ → List ℕ → Type 0
@@ -31,22 +35,21 @@ AnswersCommand (Command.Serial source) input text = IsReport input text
 AnswersCommand (Command.Explain source question) input text = IsExplanation input question text
 AnswersCommand (Command.Grants source limit) input text = IsPicture input (place_named limit) text
 AnswersCommand (Command.Rows source which) input text = IsRows input (rows_named which).0 (place_named which.limit) text
+AnswersCommand (Command.Holders source which) input text = IsHolders input which.kind which.table.now which.limit text
+AnswersCommand (Command.History source which) input text = IsHistory input which.user.now which.kind which.table.now which.option text
 
--- the log has so many places, and not the one that a command asks about
-abbrev pub LacksPlace : Command → ℕ → List ℕ → Type 0
-LacksPlace (Command.Run source settings ahead) places input = ⊥
-LacksPlace (Command.Serial source) places input = ⊥
-LacksPlace (Command.Explain source question) places input = HasNoPlace input question.place places
-LacksPlace (Command.Grants source limit) places input = EndsBefore input (place_named limit) places
-LacksPlace (Command.Rows source which) places input = EndsBefore input (place_named which.limit) places
-
--- the log has no table of the name that a command asks for
-abbrev pub LacksItsTable : Command → List ℕ → Type 0
-LacksItsTable (Command.Run source settings ahead) input = ⊥
-LacksItsTable (Command.Serial source) input = ⊥
-LacksItsTable (Command.Explain source question) input = ⊥
-LacksItsTable (Command.Grants source limit) input = ⊥
-LacksItsTable (Command.Rows source which) input = LacksTable input (rows_named which).0 (place_named which.limit)
+-- the log hasn't what a command asks for, as a fault says
+abbrev pub CommandLacks : Command → WorkFault → List ℕ → Type 0
+CommandLacks (Command.Run source settings ahead) fault input = SaysLack NoPlace ⊥ ⊥ fault
+CommandLacks (Command.Serial source) fault input = SaysLack NoPlace ⊥ ⊥ fault
+CommandLacks (Command.Explain source question) fault input = SaysLack (HasNoPlace input question.place) ⊥ ⊥ fault
+CommandLacks (Command.Grants source limit) fault input = SaysLack (EndsBefore input (place_named limit)) ⊥ ⊥ fault
+CommandLacks (Command.Rows source which) fault input =
+    SaysLack (EndsBefore input (place_named which.limit)) (LacksTable input (rows_named which).0 (place_named which.limit)) ⊥ fault
+CommandLacks (Command.Holders source which) fault input =
+    SaysLack (EndsBefore input which.limit) (LacksTable input (Some which.table.now) which.limit) ⊥ fault
+CommandLacks (Command.History source which) fault input =
+    SaysLack NoPlace (LacksTable input (Some which.table.now) None) (LacksUser input which.user.now) fault
 
 -- the end of a command's work, or of that on its log
 abbrev pub EndOf : Type 0 → Type 0
@@ -75,6 +78,8 @@ IsTaskOf arrival (Command.Serial source) task = task ≡ Task.Slow
 IsTaskOf arrival (Command.Explain source question) task = task ≡ Task.Explain question
 IsTaskOf arrival (Command.Grants source limit) task = task ≡ Task.Picture limit
 IsTaskOf arrival (Command.Rows source which) task = task ≡ Task.List which
+IsTaskOf arrival (Command.Holders source which) task = task ≡ Task.Holders which
+IsTaskOf arrival (Command.History source which) task = task ≡ Task.History which
 
 -- the fault says that a file can't be opened
 abbrev pub IsOpenFault : ProgramFault → Type 0

@@ -53,23 +53,42 @@ limit_rule = record (new_rule (codes "PLACE")) { parser = Some (vp.Unsigned 0 MO
 abbrev pub rows_app : App
 rows_app = with_rule (with_rule (over_file (codes "rows")) (new_rule (codes "TABLE"))) limit_rule
 
+-- `holders` has to have FILE, KIND and TABLE, and may have PLACE
+abbrev pub holders_app : App
+holders_app =
+    let holders = with_rule (over_file (codes "holders")) (required_rule (codes "KIND")) in
+    with_rule (with_rule holders (required_rule (codes "TABLE"))) limit_rule
+
+-- `history` has to have FILE, USER, KIND and TABLE, and may have OPTION
+abbrev pub history_app : App
+history_app =
+    let history = with_rule (over_file (codes "history")) (required_rule (codes "USER")) in
+    let history = with_rule (with_rule history (required_rule (codes "KIND"))) (required_rule (codes "TABLE")) in
+    with_rule history (new_rule (codes "OPTION"))
+
 -- a log is run, by the executor or the reference executor
 abbrev pub with_runs : App → App
 with_runs app =
     let app = with_subcommand app (with_progress run_app).top in
     with_subcommand app (with_progress (over_file (codes "serial"))).top
 
--- or it is asked of
+-- or it is asked what stands before a place of it
 abbrev pub with_questions : App → App
 with_questions app =
     let app = with_subcommand app (with_progress explain_app).top in
     let app = with_subcommand app (with_progress grants_app).top in
     with_subcommand app (with_progress rows_app).top
 
--- the program has a version and these five subcommands, one of which has to be there; each may have the flags for progress
+-- or who holds a privilege, and who held it
+abbrev pub with_privileges : App → App
+with_privileges app =
+    let app = with_subcommand app (with_progress holders_app).top in
+    with_subcommand app (with_progress history_app).top
+
+-- the program has a version and these seven subcommands, one of which has to be there; each may have the flags for progress
 abbrev pub bohm_app : App
 bohm_app =
-    let app = with_questions (with_runs (new_app (codes "bohm"))) in
+    let app = with_privileges (with_questions (with_runs (new_app (codes "bohm")))) in
     record app { top = record app.top { has_version = true; subcommand_required = true } }
 
 -- the texts of some words

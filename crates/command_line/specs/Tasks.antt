@@ -1,5 +1,5 @@
 -- The tasks on a log: what is written by each, and which faults it may end with.
-use Rattle.std.specs.Prelude.{◌≡◌, ◌≢◌, ◌≤◌, ℕ, Err, List, Result, true}
+use Rattle.std.specs.Prelude.{◌≡◌, ◌≢◌, ◌≤◌, ℕ, Err, List, None, Result, Some, true}
 use Rattle.line_io.specs.declared.fault.EngineFault.{EngineFault}
 use Rattle.report.specs.Report.{IsReport}
 use Rattle.audit_text.specs.Answer.{HasNoPlace, IsExplanation}
@@ -7,6 +7,7 @@ use Rattle.audit_text.specs.Picture.{EndsBefore, IsPicture}
 use Rattle.audit_text.specs.RowsBefore.{IsRows, LacksTable}
 use Rattle.audit_text.specs.declared.fault.WorkFault.{WorkFault}
 use Rattle.batched_text.specs.Settings.{are_within_limits}
+use Rattle.privileges_text.specs.Questions.{IsHistory, IsHolders, LacksUser}
 use Rattle.command_line.specs.Options.{place_named, rows_named}
 use Rattle.command_line.specs.declared.options.TheConstants.{MOST_AHEAD}
 use Rattle.command_line.specs.declared.work.Task.{Task}
@@ -19,6 +20,8 @@ TaskIsWithin Task.Slow = Unit {0}
 TaskIsWithin (Task.Explain question) = Unit {0}
 TaskIsWithin (Task.Picture limit) = Unit {0}
 TaskIsWithin (Task.List which) = Unit {0}
+TaskIsWithin (Task.Holders which) = Unit {0}
+TaskIsWithin (Task.History which) = Unit {0}
 
 -- the text answers a task about the bytes of its log
 abbrev pub AnswersTask : Task → List ℕ → List ℕ → Type 0
@@ -28,24 +31,40 @@ AnswersTask Task.Slow input text = IsReport input text
 AnswersTask (Task.Explain question) input text = IsExplanation input question text
 AnswersTask (Task.Picture limit) input text = IsPicture input (place_named limit) text
 AnswersTask (Task.List which) input text = IsRows input (rows_named which).0 (place_named which.limit) text
+AnswersTask (Task.Holders which) input text = IsHolders input which.kind which.table.now which.limit text
+AnswersTask (Task.History which) input text = IsHistory input which.user.now which.kind which.table.now which.option text
 
--- the log has so many places, and not the one that a task names
-abbrev pub TaskLacksPlace : Task → ℕ → List ℕ → Type 0
-TaskLacksPlace (Task.InOrder threads) places input = ⊥
-TaskLacksPlace (Task.InBatches settings arrival) places input = ⊥
-TaskLacksPlace Task.Slow places input = ⊥
-TaskLacksPlace (Task.Explain question) places input = HasNoPlace input question.place places
-TaskLacksPlace (Task.Picture limit) places input = EndsBefore input (place_named limit) places
-TaskLacksPlace (Task.List which) places input = EndsBefore input (place_named which.limit) places
+-- a fault says that something isn't there that was asked for
+abbrev pub IsLack : WorkFault → Type 0
+IsLack (WorkFault.NoSuchPlace places) = Unit {0}
+IsLack WorkFault.NoSuchTable = Unit {0}
+IsLack WorkFault.NoSuchUser = Unit {0}
+IsLack (WorkFault.Run fault) = ⊥
 
--- the log has no table of the name that a task names
-abbrev pub TaskLacksTable : Task → List ℕ → Type 0
-TaskLacksTable (Task.InOrder threads) input = ⊥
-TaskLacksTable (Task.InBatches settings arrival) input = ⊥
-TaskLacksTable Task.Slow input = ⊥
-TaskLacksTable (Task.Explain question) input = ⊥
-TaskLacksTable (Task.Picture limit) input = ⊥
-TaskLacksTable (Task.List which) input = LacksTable input (rows_named which).0 (place_named which.limit)
+-- what such a fault says of a log: that it has so many places and not the one that is asked for, or no such table, or no such user
+abbrev pub SaysLack : (ℕ → Type 0) → Type 0 → Type 0 → WorkFault → Type 0
+SaysLack place table user (WorkFault.NoSuchPlace places) = place places
+SaysLack place table user WorkFault.NoSuchTable = table
+SaysLack place table user WorkFault.NoSuchUser = user
+SaysLack place table user (WorkFault.Run fault) = Unit {0}
+
+-- where no place is asked for
+abbrev pub NoPlace : ℕ → Type 0
+NoPlace places = ⊥
+
+-- the log hasn't what a task asks for, as such a fault says
+abbrev pub TaskLacks : Task → WorkFault → List ℕ → Type 0
+TaskLacks (Task.InOrder threads) fault input = SaysLack NoPlace ⊥ ⊥ fault
+TaskLacks (Task.InBatches settings arrival) fault input = SaysLack NoPlace ⊥ ⊥ fault
+TaskLacks Task.Slow fault input = SaysLack NoPlace ⊥ ⊥ fault
+TaskLacks (Task.Explain question) fault input = SaysLack (HasNoPlace input question.place) ⊥ ⊥ fault
+TaskLacks (Task.Picture limit) fault input = SaysLack (EndsBefore input (place_named limit)) ⊥ ⊥ fault
+TaskLacks (Task.List which) fault input =
+    SaysLack (EndsBefore input (place_named which.limit)) (LacksTable input (rows_named which).0 (place_named which.limit)) ⊥ fault
+TaskLacks (Task.Holders which) fault input =
+    SaysLack (EndsBefore input which.limit) (LacksTable input (Some which.table.now) which.limit) ⊥ fault
+TaskLacks (Task.History which) fault input =
+    SaysLack NoPlace (LacksTable input (Some which.table.now) None) (LacksUser input which.user.now) fault
 
 -- the work didn't end for want of a place
 abbrev pub LacksNoPlace : Result (Unit {0}) WorkFault → Type 0
@@ -55,13 +74,26 @@ LacksNoPlace ended = (places : ℕ) → ended ≢ Err (WorkFault.NoSuchPlace pla
 abbrev pub LacksNoTable : Result (Unit {0}) WorkFault → Type 0
 LacksNoTable ended = ended ≢ Err WorkFault.NoSuchTable
 
--- a run never ends for want of a place, only rows are asked of a table, and only several workers end a run because a thread could not be
--- started
+-- nor of a user
+abbrev pub LacksNoUser : Result (Unit {0}) WorkFault → Type 0
+LacksNoUser ended = ended ≢ Err WorkFault.NoSuchUser
+
+-- nor of anything that is asked for
+abbrev pub LacksNothing : Result (Unit {0}) WorkFault → Type 0
+LacksNothing ended = LacksNoPlace ended × LacksNoTable ended × LacksNoUser ended
+
+-- nor because a thread could not be started
+abbrev pub StartsAll : Result (Unit {0}) WorkFault → Type 0
+StartsAll ended = ended ≢ Err (WorkFault.Run EngineFault.Spawn)
+
+-- a run never ends for want of anything that is asked for, only the questions that name a place, a table or a user for want of that, and only
+-- several workers end a run because a thread could not be started
 abbrev pub MayAnswer : Task → Result (Unit {0}) WorkFault → Type 0
-MayAnswer (Task.InOrder threads) ended = LacksNoPlace ended × LacksNoTable ended × (ended ≢ Err (WorkFault.Run EngineFault.Spawn))
-MayAnswer (Task.InBatches settings arrival) ended =
-    LacksNoPlace ended × LacksNoTable ended × (settings.workers ≤ 1 → ended ≢ Err (WorkFault.Run EngineFault.Spawn))
-MayAnswer Task.Slow ended = LacksNoPlace ended × LacksNoTable ended × (ended ≢ Err (WorkFault.Run EngineFault.Spawn))
-MayAnswer (Task.Explain question) ended = LacksNoTable ended × (ended ≢ Err (WorkFault.Run EngineFault.Spawn))
-MayAnswer (Task.Picture limit) ended = LacksNoTable ended × (ended ≢ Err (WorkFault.Run EngineFault.Spawn))
-MayAnswer (Task.List which) ended = ended ≢ Err (WorkFault.Run EngineFault.Spawn)
+MayAnswer (Task.InOrder threads) ended = LacksNothing ended × StartsAll ended
+MayAnswer (Task.InBatches settings arrival) ended = LacksNothing ended × (settings.workers ≤ 1 → StartsAll ended)
+MayAnswer Task.Slow ended = LacksNothing ended × StartsAll ended
+MayAnswer (Task.Explain question) ended = LacksNoTable ended × LacksNoUser ended × StartsAll ended
+MayAnswer (Task.Picture limit) ended = LacksNoTable ended × LacksNoUser ended × StartsAll ended
+MayAnswer (Task.List which) ended = LacksNoUser ended × StartsAll ended
+MayAnswer (Task.Holders which) ended = LacksNoUser ended × StartsAll ended
+MayAnswer (Task.History which) ended = LacksNoPlace ended × StartsAll ended

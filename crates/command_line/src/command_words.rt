@@ -4,16 +4,19 @@ ghost use Rattle.std.specs.Prelude.{◌≡◌, ◌⊎◌, [], Err, IfOk, IfErr, 
 ghost use Rattle.std.specs.Option.{option_map};
 ghost use Rattle.clap.specs.Words.{fault_of, found_of, kind_of, rows_of, subcommand_of, subcommand_rows_of};
 ghost use Rattle.command_line.specs.Shapes.{bohm_app, texts_of};
-ghost use Rattle.command_line.specs.Words.{Asks, AsksOutsideLimits, IsWithinLimits, TellsError, TellsOneOf, asked, asked_by, asked_in, message_of, path_named, path_of, progress_in, status_of, stream_of, verb_named};
+ghost use Rattle.command_line.specs.Words.{Asks, IsMisuse, IsWithinLimits, TellsError, TellsOneOf, asked, asked_by, asked_in, message_of, path_named, path_of, progress_in, status_of, stream_of, verb_named};
 
 use crate::options::{
-    Choice, Limit, Progress, RowsAsked, limit_of, progress_of, question_of, rows_asked, way_of,
+    Choice, Limit, MOST_PLACE, Progress, RowsAsked, limit_of, progress_of, question_of, rows_asked,
+    way_of,
 };
+use crate::privileges::{history_asked, holders_asked};
 use crate::subcommands::program;
 use audit_text::{Question, WorkFault};
 use batched_text::Settings;
 use clap::error::ErrorKind;
 use clap::{ArgMatches, Error};
+use privileges_text::{HistoryAsked, HoldersAsked};
 use std::alloc::Global;
 use std::fmt;
 
@@ -51,6 +54,10 @@ pub enum Command<'a> {
     Grants(Source<'a>, Limit),
     /// Write the rows that are there before a place of a log, or at its end.
     Rows(Source<'a>, RowsAsked<'a>),
+    /// Write who holds a privilege before a place of a log, or at its end.
+    Holders(Source<'a>, HoldersAsked<'a>),
+    /// Write when a user held a privilege.
+    History(Source<'a>, HistoryAsked<'a>),
 }
 
 impl<'a> Command<'a> {
@@ -65,7 +72,9 @@ impl<'a> Command<'a> {
             | Command::Serial(source)
             | Command::Explain(source, _)
             | Command::Grants(source, _)
-            | Command::Rows(source, _) => source,
+            | Command::Rows(source, _)
+            | Command::Holders(source, _)
+            | Command::History(source, _) => source,
         }
     }
 }
@@ -81,12 +90,14 @@ pub struct Request<'a> {
 
 /// The subcommands.
 #[derive(Clone, Copy)]
-pub(crate) enum Verb {
+pub enum Verb {
     Run,
     Serial,
     Explain,
     Grants,
     Rows,
+    Holders,
+    History,
 }
 
 /// Why the words are no command, with the text to print.
@@ -98,8 +109,8 @@ pub enum Usage {
     Help(String),
     /// A word isn't text.
     NotUtf8,
-    /// A setting isn't within its limits.
-    OutsideLimits,
+    /// The words of this subcommand don't go together, or one isn't what it has to be.
+    Misused(Verb),
     /// A growth was refused.
     NoMemory,
 }
@@ -124,6 +135,27 @@ pub enum Stream {
     Error,
 }
 
+/// What the words of a subcommand have to be, where they weren't.
+#[derive(Clone, Copy)]
+struct Misuse(Verb);
+
+impl fmt::Display for Misuse {
+    ghost use Rattle.std.specs.Prelude.{Some};
+    ghost use Rattle.command_line.specs.Words.{misuse_text};
+
+    ghost output = { λ misuse. Some (misuse_text misuse.0) };
+
+    fn fmt<W: fmt::Write>(&self, f: &mut fmt::Formatter<W>) -> fmt::Result {
+        f.write_str(match self.0 {
+            Verb::Run | Verb::Serial => "bad settings",
+            Verb::Explain | Verb::Grants => "PLACE is 0 to 4294967294",
+            Verb::Rows => "a word that begins with a digit is PLACE, 0 to 4294967295",
+            Verb::Holders => "KIND is READ, INSERT, UPDATE or DELETE",
+            Verb::History => "KIND is READ, INSERT, UPDATE or DELETE, and the last word OPTION",
+        })
+    }
+}
+
 impl fmt::Display for ProgramFault {
     ghost use Rattle.std.specs.Prelude.{Some};
 
@@ -136,7 +168,10 @@ impl fmt::Display for ProgramFault {
             ProgramFault::Usage(Usage::NotUtf8) => {
                 f.write_str("bohm: an argument isn't valid UTF-8")
             }
-            ProgramFault::Usage(Usage::OutsideLimits) => f.write_str("bohm: bad settings"),
+            ProgramFault::Usage(Usage::Misused(verb)) => {
+                let misuse = Misuse(*verb);
+                write!(f, "bohm: {misuse}")
+            }
             ProgramFault::Usage(Usage::NoMemory) => f.write_str("bohm: out of memory"),
             ProgramFault::Open(text) => f.write_str(text.as_str()),
             ProgramFault::Work(fault) => write!(f, "bohm: {fault}"),
@@ -168,6 +203,8 @@ fn verb_of(name: &str) -> Verb
         "explain" => Verb::Explain,
         "grants" => Verb::Grants,
         "rows" => Verb::Rows,
+        "holders" => Verb::Holders,
+        "history" => Verb::History,
         _ => Verb::Run,
     }
 }
@@ -182,7 +219,7 @@ fn source_of<'a>(file: Option<&'a str>) -> Source<'a>
     }
 }
 
-/// The command of a subcommand over the log of a source, if its numbers are within their limits.
+/// The command of a subcommand over the log of a source, if its words go together.
 fn command_of<'a>(verb: Verb, source: Source<'a>, found: &ArgMatches<'a>) -> Option<Command<'a>>
     ensures asks { option_map asked result ≡ asked_by verb (path_of source.entry) (rows_of (found_of found.now)) }
     ensures within { IfSome result IsWithinLimits }
@@ -197,29 +234,41 @@ fn command_of<'a>(verb: Verb, source: Source<'a>, found: &ArgMatches<'a>) -> Opt
             Some(question) => Some(Command::Explain(source, question)),
             None => None,
         },
-        Verb::Grants => match limit_of(found) {
+        Verb::Grants => match limit_of(found, MOST_PLACE) {
             Some(limit) => Some(Command::Grants(source, limit)),
             None => None,
         },
         Verb::Rows => match rows_asked(found) {
-            Some(asked) => Some(Command::Rows(source, asked)),
+            Some(which) => Some(Command::Rows(source, which)),
+            None => None,
+        },
+        Verb::Holders => match holders_asked(found) {
+            Some(which) => Some(Command::Holders(source, which)),
+            None => None,
+        },
+        Verb::History => match history_asked(found) {
+            Some(which) => Some(Command::History(source, which)),
             None => None,
         },
     }
 }
 
-/// The command of the subcommand that was entered, if its numbers are within their limits.
-fn command_in<'a>(matches: &ArgMatches<'a>) -> Option<Command<'a>>
-    ensures asks { option_map asked result ≡ asked_in (subcommand_rows_of matches.now) }
-    ensures within { IfSome result IsWithinLimits }
+/// The command of the subcommand that was entered. An error where its words don't go together.
+fn command_in<'a>(matches: &ArgMatches<'a>) -> Result<Command<'a>, Usage>
+    ensures asks { IfOk result (λ command. Asks command (subcommand_rows_of matches.now)) }
+    ensures within { IfOk result IsWithinLimits }
+    ensures misused { IfErr result (λ usage. IsMisuse usage (subcommand_rows_of matches.now)) }
 {
     let Some((name, found)) = matches.subcommand() else {
-        return None;
+        return Err(Usage::Misused(Verb::Run));
     };
     let file = found.get_str("FILE");
     let verb = verb_of(name);
     let source = source_of(file);
-    command_of(verb, source, found)
+    match command_of(verb, source, found) {
+        Some(command) => Ok(command),
+        None => Err(Usage::Misused(verb)),
+    }
 }
 
 /// Whether progress is shown, by the flags of the subcommand that was entered.
@@ -234,8 +283,7 @@ fn progress_in(matches: &ArgMatches<'_>) -> Progress
 
 /// Reads the words of the command line, the program's name first. The words are judged by `clap`: an answered command
 /// is the one of the subcommand that it finds, with the file and the settings that it finds, and these are within their
-/// limits. Words that it takes fail only where a growth was refused, or where a number isn't within its limits or lines would be read
-/// ahead of batches. Help is
+/// limits. Words that it takes fail only where a growth was refused, or where they don't go together. Help is
 /// answered only where the words ask for it, and a fault only where they are wrong.
 pub fn read_words<'a>(alloc: Global, words: &'a [&'a str]) -> Result<Request<'a>, Usage>
     ensures taken { OnOk result (fault_of bohm_app (texts_of words.entry.now) ≡ []) }
@@ -243,10 +291,9 @@ pub fn read_words<'a>(alloc: Global, words: &'a [&'a str]) -> Result<Request<'a>
     ensures progress { IfOk result (λ request. request.progress ≡ progress_in (subcommand_of bohm_app (texts_of words.entry.now))) }
     ensures within { IfOk result (λ request. IsWithinLimits request.command) }
     ensures fault { IfErr result (λ usage. fault_of bohm_app (texts_of words.entry.now) ≡ []
-        → (usage ≡ Usage.NoMemory) ⊎ (usage ≡ Usage.OutsideLimits)) }
-    ensures told { IfErr result (λ usage. (usage ≡ Usage.OutsideLimits)
+        → (usage ≡ Usage.NoMemory) ⊎ IsMisuse usage (subcommand_of bohm_app (texts_of words.entry.now))) }
+    ensures told { IfErr result (λ usage. IsMisuse usage (subcommand_of bohm_app (texts_of words.entry.now))
         ⊎ TellsOneOf (fault_of bohm_app (texts_of words.entry.now)) usage) }
-    ensures outside { result ≡ Err Usage.OutsideLimits → AsksOutsideLimits (subcommand_of bohm_app (texts_of words.entry.now)) }
 {
     let program = match program(alloc) {
         Ok(program) => program,
@@ -257,11 +304,11 @@ pub fn read_words<'a>(alloc: Global, words: &'a [&'a str]) -> Result<Request<'a>
         Err(error) => return Err(usage_of(alloc, &error)),
     };
     match command_in(&matches) {
-        Some(command) => Ok(Request {
+        Ok(command) => Ok(Request {
             command,
             progress: progress_in(&matches),
         }),
-        None => Err(Usage::OutsideLimits),
+        Err(usage) => Err(usage),
     }
 }
 
@@ -274,7 +321,9 @@ pub fn ending(fault: &ProgramFault) -> (u8, Stream)
         ProgramFault::Usage(Usage::Fault(_)) => (2, Stream::Error),
         ProgramFault::Usage(Usage::NotUtf8) => (2, Stream::Error),
         ProgramFault::Usage(Usage::Help(_)) => (0, Stream::Output),
-        ProgramFault::Usage(Usage::OutsideLimits | Usage::NoMemory) => (1, Stream::Error),
+        ProgramFault::Usage(Usage::Misused(Verb::Run | Verb::Serial)) => (1, Stream::Error),
+        ProgramFault::Usage(Usage::Misused(_)) => (2, Stream::Error),
+        ProgramFault::Usage(Usage::NoMemory) => (1, Stream::Error),
         ProgramFault::Open(_) | ProgramFault::Work(_) => (1, Stream::Error),
     }
 }

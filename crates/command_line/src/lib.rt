@@ -9,6 +9,7 @@
 mod arguments;
 mod command_words;
 mod options;
+mod privileges;
 mod running;
 mod sources;
 mod subcommands;
@@ -16,7 +17,7 @@ mod work;
 
 pub use arguments::argument_fault;
 pub use command_words::{
-    Command, ProgramFault, Request, Source, Stream, Usage, ending, read_words,
+    Command, ProgramFault, Request, Source, Stream, Usage, Verb, ending, read_words,
 };
 pub use options::{Choice, Limit, Progress, RowsAsked};
 pub use running::do_command;

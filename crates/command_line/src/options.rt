@@ -367,12 +367,12 @@ fn limit_by(place: Choice) -> Limit
     }
 }
 
-/// The limit that the words of `grants` name, if their place is within the limits.
-pub(crate) fn limit_of(found: &ArgMatches<'_>) -> Option<Limit>
-    ensures { result ≡ limit_among (rows_of (found_of found.now)) }
+/// The limit that the words name, if their place is at most this one.
+pub(crate) fn limit_of(found: &ArgMatches<'_>, most: Place) -> Option<Limit>
+    ensures { result ≡ limit_among most (rows_of (found_of found.now)) }
 {
     let word = found.get_str("PLACE");
-    match choice_within(word, 0, MOST_PLACE) {
+    match choice_within(word, 0, most) {
         Some(place) => Some(limit_by(place)),
         None => None,
     }

@@ -4,8 +4,8 @@ ghost use Rattle.std.specs.Prelude.{◌≡◌, ◌≤◌, ◌<◌, ◌-◌, ◌^
 ghost use Rattle.line_io.specs.Known.{raised};
 ghost use Rattle.audit_text.specs.Texts.{BeginsText, WritesText};
 ghost use Rattle.command_line.specs.Options.{IfGiven};
-ghost use Rattle.command_line.specs.Running.{AnswersCommand, DoesCommand, IsOpenFault, IsTaskOf, IsUnopened, LacksItsTable, LacksPlace, path_in};
-ghost use Rattle.command_line.specs.Tasks.{TaskIsWithin};
+ghost use Rattle.command_line.specs.Running.{AnswersCommand, DoesCommand, IsOpenFault, IsTaskOf, IsUnopened, CommandLacks, path_in};
+ghost use Rattle.command_line.specs.Tasks.{IsLack, TaskIsWithin};
 ghost use Rattle.command_line.specs.Words.{IsWithinLimits};
 
 use crate::command_words::{Command, ProgramFault, Source};
@@ -61,7 +61,9 @@ fn task_of<'a, R: Threads>(rt: &R, command: Command<'a>, arrival: Arrival) -> Ta
         Command::Serial(_) => Task::Slow,
         Command::Explain(_, question) => Task::Explain(question),
         Command::Grants(_, limit) => Task::Picture(limit),
-        Command::Rows(_, asked) => Task::List(asked),
+        Command::Rows(_, which) => Task::List(which),
+        Command::Holders(_, which) => Task::Holders(which),
+        Command::History(_, which) => Task::History(which),
     }
 }
 
@@ -97,8 +99,8 @@ fn open_log<L: Sources>(
     }
 }
 
-/// Does what a command asks for by a task of `job`: `run` in order on one thread or in batches, as its way is, `serial` by the slow run,
-/// `explain` by the answer to its question, `grants` by the picture of the grants, and `rows` by the list of the rows.
+/// Does what a command asks for by a task of `job`: `run` in order on one thread or in batches, as its way is, `serial` by the slow run, and
+/// each question by its answer.
 ///
 /// The log is that of the source that the command names, which is opened, and no other: `sources` is used up by that. What is given goes to
 /// the writer, which is flushed at the end. Where the file can't be opened nothing is written.
@@ -118,12 +120,10 @@ pub fn do_command<J: Job, L: Sources, T: Threads + Wait + Sync, W: Write>(
         (W.contents told.old.inner) (W.contents told.new.inner)) }
     ensures begun { BeginsText (AnswersCommand command.entry) (L.bytes sources (path_in command.entry))
         (W.contents told.old.inner) (W.contents told.new.inner) }
-    // NoSuchPlace comes only where the log of the source has that many places and not this one, and nothing is written then.
-    ensures none { (places : ℕ) → result ≡ Err (ProgramFault.Work (WorkFault.NoSuchPlace places))
-        → (told.new ≡ told.old) × IfSome (L.bytes sources (path_in command.entry)) (LacksPlace command.entry places) }
-    // NoSuchTable comes only where no statement before the place creates a table of the name, and nothing is written then.
-    ensures table { result ≡ Err (ProgramFault.Work WorkFault.NoSuchTable)
-        → (told.new ≡ told.old) × IfSome (L.bytes sources (path_in command.entry)) (LacksItsTable command.entry) }
+    // NoSuchPlace comes only where the log of the source has that many places and not this one, NoSuchTable and NoSuchUser only where no
+    // statement before the place names one of the name, and nothing is written then.
+    ensures lacks { (fault : WorkFault) → result ≡ Err (ProgramFault.Work fault) → IsLack fault
+        → (told.new ≡ told.old) × IfSome (L.bytes sources (path_in command.entry)) (CommandLacks command.entry fault) }
     // Ok says that the writer didn't fail, and that it was flushed, once, and not written to since.
     ensures whole { OnOk result (told.new.errors ≡ told.old.errors) }
     ensures flushed { OnOk result ((told.new.flushes ≡ raised told.old.flushes) × (told.new.is_flushed ≡ true)) }

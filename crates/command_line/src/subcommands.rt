@@ -2,7 +2,7 @@
 
 ghost use Rattle.std.specs.Prelude.{◌≡◌, IfOk, codes, true};
 ghost use Rattle.clap.specs.Words.{app_of, new_rule, with_rule, with_subcommand};
-ghost use Rattle.command_line.specs.Shapes.{bohm_app, explain_app, flag_rule, grants_app, limit_rule, over_file, place_rule, required_rule, rows_app, run_app, with_progress, with_questions, with_runs};
+ghost use Rattle.command_line.specs.Shapes.{bohm_app, explain_app, flag_rule, grants_app, history_app, holders_app, limit_rule, over_file, place_rule, required_rule, rows_app, run_app, with_privileges, with_progress, with_questions, with_runs};
 
 use crate::options::{MOST_PLACE, with_options};
 use clap::builder::ValueParser;
@@ -145,6 +145,79 @@ fn with_rows_limit<'a>(alloc: Global, command: Command<'a>) -> Result<Command<'a
     command.arg(place)
 }
 
+/// Adds a word, which has to be there, to a command's description.
+fn with_word<'a>(
+    alloc: Global,
+    command: Command<'a>,
+    name: &'a str,
+    help: &'a str,
+) -> Result<Command<'a>, AllocError>
+    ensures { IfOk result (λ c. app_of c ≡ with_rule (app_of command.entry) (required_rule name.entry.now)) }
+{
+    let word = Arg::new(alloc, name).required(true).help(help);
+    command.arg(word)
+}
+
+/// Adds the words KIND and TABLE, which have to be there, to a command's description.
+fn with_privilege<'a>(alloc: Global, command: Command<'a>) -> Result<Command<'a>, AllocError>
+    ensures { IfOk result (λ c. app_of c ≡ with_rule (with_rule (app_of command.entry) (required_rule (codes "KIND"))) (required_rule (codes "TABLE"))) }
+{
+    let command = with_word(
+        alloc,
+        command,
+        "KIND",
+        "The kind of the privilege: READ, INSERT, UPDATE or DELETE",
+    )?;
+    with_word(alloc, command, "TABLE", "The table on which it is held")
+}
+
+/// Adds the word PLACE before which a privilege is held, which may be there, to a command's description.
+fn with_holders_limit<'a>(alloc: Global, command: Command<'a>) -> Result<Command<'a>, AllocError>
+    ensures { IfOk result (λ c. app_of c ≡ with_rule (app_of command.entry) limit_rule) }
+{
+    let place = Arg::new(alloc, "PLACE")
+        .value_parser(ValueParser::unsigned(0, MOST_PLACES))
+        .help("The place before which it is held. Without it, the end of the log");
+    command.arg(place)
+}
+
+/// Adds the word OPTION, which may be there, to a command's description.
+fn with_option<'a>(alloc: Global, command: Command<'a>) -> Result<Command<'a>, AllocError>
+    ensures { IfOk result (λ c. app_of c ≡ with_rule (app_of command.entry) (new_rule (codes "OPTION"))) }
+{
+    let option = Arg::new(alloc, "OPTION").help(
+        "The word OPTION, for when the user held it with the grant option",
+    );
+    command.arg(option)
+}
+
+/// The description of `holders`, but for the flags for progress.
+fn describe_holders<'a>(alloc: Global) -> Result<Command<'a>, AllocError>
+    ensures { IfOk result (λ c. app_of c ≡ holders_app) }
+{
+    let holders = over_file(
+        alloc,
+        "holders",
+        "Writes who holds a privilege before a place, and by which grants",
+    )?;
+    let holders = with_privilege(alloc, holders)?;
+    with_holders_limit(alloc, holders)
+}
+
+/// The description of `history`, but for the flags for progress.
+fn describe_history<'a>(alloc: Global) -> Result<Command<'a>, AllocError>
+    ensures { IfOk result (λ c. app_of c ≡ history_app) }
+{
+    let history = over_file(
+        alloc,
+        "history",
+        "Writes from which place to which a user held a privilege, and by which grants",
+    )?;
+    let history = with_word(alloc, history, "USER", "The user who held it")?;
+    let history = with_privilege(alloc, history)?;
+    with_option(alloc, history)
+}
+
 /// The description of `rows`, but for the flags for progress.
 fn describe_rows<'a>(alloc: Global) -> Result<Command<'a>, AllocError>
     ensures { IfOk result (λ c. app_of c ≡ rows_app) }
@@ -185,7 +258,7 @@ fn with_runs<'a>(alloc: Global, program: Command<'a>) -> Result<Command<'a>, All
     with_subcommand(alloc, program, serial)
 }
 
-/// Adds the subcommands that ask of a log to the program's description.
+/// Adds the subcommands that ask what stands before a place to the program's description.
 fn with_questions<'a>(alloc: Global, program: Command<'a>) -> Result<Command<'a>, AllocError>
     ensures { IfOk result (λ c. app_of c ≡ with_questions (app_of program.entry)) }
 {
@@ -197,6 +270,16 @@ fn with_questions<'a>(alloc: Global, program: Command<'a>) -> Result<Command<'a>
     with_subcommand(alloc, program, rows)
 }
 
+/// Adds the subcommands that ask of privileges to the program's description.
+fn with_privileges<'a>(alloc: Global, program: Command<'a>) -> Result<Command<'a>, AllocError>
+    ensures { IfOk result (λ c. app_of c ≡ with_privileges (app_of program.entry)) }
+{
+    let holders = describe_holders(alloc)?;
+    let program = with_subcommand(alloc, program, holders)?;
+    let history = describe_history(alloc)?;
+    with_subcommand(alloc, program, history)
+}
+
 /// The program's own description of its words.
 pub(crate) fn program<'a>(alloc: Global) -> Result<Command<'a>, AllocError>
     ensures { IfOk result (λ c. app_of c ≡ bohm_app) }
@@ -206,5 +289,6 @@ pub(crate) fn program<'a>(alloc: Global) -> Result<Command<'a>, AllocError>
         .about("A deterministic transaction executor");
     let bohm = with_runs(alloc, bohm)?;
     let bohm = with_questions(alloc, bohm)?;
+    let bohm = with_privileges(alloc, bohm)?;
     Ok(bohm.subcommand_required(true))
 }

@@ -1,13 +1,13 @@
 //! What the program does with a log.
 
-ghost use Rattle.std.specs.Prelude.{◌≡◌, ℕ, Err, IfSome, Result};
+ghost use Rattle.std.specs.Prelude.{◌≡◌, Err, IfErr, IfSome, Result};
 ghost use Rattle.std.specs.Thread.{IsSync};
 ghost use Rattle.line_io.specs.Failures.{CountsFailures};
 ghost use Rattle.line_io.specs.declared.fault.EngineFault.{EngineFault};
 ghost use Rattle.audit_text.specs.Texts.{SaysText};
 ghost use Rattle.audit_text.specs.declared.fault.WorkFault.{WorkFault};
 ghost use Rattle.command_line.specs.declared.work.Task.{Task};
-ghost use Rattle.command_line.specs.Tasks.{AnswersTask, MayAnswer, TaskIsWithin, TaskLacksPlace, TaskLacksTable};
+ghost use Rattle.command_line.specs.Tasks.{AnswersTask, IsLack, MayAnswer, TaskIsWithin, TaskLacks};
 
 use crate::options::{Limit, RowsAsked};
 use audit_text::{Question, WorkFault, explain_text, grants_text, rows_text};
@@ -17,6 +17,7 @@ use batched_text::{
 use bohm_base::serial_text;
 use line_io::Counted;
 use model_base::HashSeed;
+use privileges_text::{HistoryAsked, HoldersAsked, history_text, holders_text};
 use std::alloc::Global;
 use std::io::{Read, Write};
 use std::sync::Wait;
@@ -37,6 +38,10 @@ pub enum Task<'a> {
     Picture(Limit),
     /// List the rows that are there before a place, or at the end.
     List(RowsAsked<'a>),
+    /// Tell who holds a privilege before a place, or at the end.
+    Holders(HoldersAsked<'a>),
+    /// Tell when a user held a privilege.
+    History(HistoryAsked<'a>),
 }
 
 /// Work on a log by a task, from the log's bytes to those that it says. A trait, so that only the work itself can give `answers`: a command
@@ -46,7 +51,7 @@ pub trait Job {
     ghost answers: { Self → Task → Result (Unit {0}) WorkFault → Type 0 };
 
     /// Reads the log, as far as it has to, and writes what it says of it. After a fault a beginning of that was written, or nothing; where
-    /// the place or the table isn't there, nothing.
+    /// the place, the table or the user isn't there, nothing.
     fn work<T: Threads + Wait + Sync, R: Read, W: Write>(
         &self,
         rt: &T,
@@ -60,10 +65,8 @@ pub trait Job {
         ensures answers { answers self.now task.entry result }
         ensures text { SaysText (AnswersTask task.entry)
             (R.remaining log.old.inner) (W.contents told.old.inner) (W.contents told.new.inner) result }
-        ensures none { (places : ℕ) → result ≡ Err (WorkFault.NoSuchPlace places)
-            → (told.new ≡ told.old) × IfSome (R.remaining log.old.inner) (TaskLacksPlace task.entry places) }
-        ensures table { result ≡ Err WorkFault.NoSuchTable
-            → (told.new ≡ told.old) × IfSome (R.remaining log.old.inner) (TaskLacksTable task.entry) }
+        ensures lacks { IfErr result (λ fault. IsLack fault
+            → (told.new ≡ told.old) × IfSome (R.remaining log.old.inner) (TaskLacks task.entry fault)) }
         ensures settings { result ≡ Err (WorkFault.Run EngineFault.BadSettings) → ⊥ }
         ensures failures { CountsFailures (WorkFault.Run EngineFault.Read) (WorkFault.Run EngineFault.Write)
             log.old log.new told.old told.new result };
@@ -120,6 +123,8 @@ impl Job for SeededJob {
                 asked.limit.place(),
                 self.seed,
             ),
+            Task::Holders(which) => holders_text(alloc, log, told, &which, self.seed),
+            Task::History(which) => history_text(alloc, log, told, &which, self.seed),
         }
     }
 }

@@ -1,19 +1,26 @@
-use Rattle.std.proofs.Common.{Option, ap, sym, ◌∙◌, ◌≡◌, subst, codes}
-use Rattle.std.specs.Prelude.{List, option_map}
-use Rattle.clap.specs.Words.{Row, Text, found_of, rows_of}
+use Rattle.std.proofs.Common.{Some, ap, codes, sym, ◌∙◌}
+use Rattle.clap.specs.Words.{found_of, rows_of, subcommand_rows_of}
 use Rattle.clap.proofs.WalkLemmas.{first_value-rows}
-use Rattle.command_line.specs.Words.{asked, asked_by, asked_in, path_named, path_of, verb_named}
+use Rattle.command_line.specs.Words.{asked, path_named, path_of}
+use Rattle.command_line.specs.declared.command_words.Usage.{Usage}
 use Rattle.command_line.specs.declared.command_words.Verb.{Verb}
-use Rattle.command_line.proofs.Telling.{entered}
+use Rattle.command_line.proofs.Telling.{asks_as, entered, verb_as}
 use Rattle.command_line.proofs.command_words.command_in.Goals as goal
 
-pub returns-clause-asks : goal.returns-clause-asks
-returns-clause-asks c =
+pub returns-in-Some-command_of-clause-asks : goal.returns-in-Some-command_of-clause-asks
+returns-in-Some-command_of-clause-asks c =
     let rows = rows_of (found_of c.in-Some.found.now) in
     let is = entered c.args.matches.now c.in-Some.name.now rows c.in-Some.ensures.name c.in-Some.ensures.rows in
-    let file = c.get_str-file.ensures ∙ first_value-rows (found_of c.in-Some.found.now) (codes "FILE") in
-    let path = c.source_of-source.ensures ∙ ap path_named file in
-    subst (λ (e : Option (Text × List Row)). option_map asked c.command_of.result ≡ asked_in e) (sym is)
-    (c.command_of.ensures.asks
-    ∙ ap (λ (v : Verb). asked_by v (path_of c.source_of-source.result) rows) c.verb_of-verb.ensures
-    ∙ ap (λ (p : Option Text). asked_by (verb_named c.in-Some.name.now) p rows) path)
+    let file = c.source_of-source.ensures ∙ ap path_named (c.get_str-file.ensures ∙ first_value-rows (found_of c.in-Some.found.now) (codes "FILE")) in
+    sym (asks_as (subcommand_rows_of c.args.matches.now) c.in-Some.name.now rows c.verb_of-verb.result (path_of c.source_of-source.result)
+    (Some (asked c.in-Some-command_of.command)) is c.verb_of-verb.ensures file c.in-Some-command_of.ensures.asks)
+
+pub returns-in-None-clause-misused : goal.returns-in-None-clause-misused
+returns-in-None-clause-misused c =
+    let rows = rows_of (found_of c.in-Some.found.now) in
+    let is = entered c.args.matches.now c.in-Some.name.now rows c.in-Some.ensures.name c.in-Some.ensures.rows in
+    let file = c.source_of-source.ensures ∙ ap path_named (c.get_str-file.ensures ∙ first_value-rows (found_of c.in-Some.found.now) (codes "FILE")) in
+    let given = subcommand_rows_of c.args.matches.now in (
+      ap (λ (verb : Verb). Usage.Misused verb) (verb_as given c.in-Some.name.now rows c.verb_of-verb.result is c.verb_of-verb.ensures),
+      sym (asks_as given c.in-Some.name.now rows c.verb_of-verb.result (path_of c.source_of-source.result) _ is c.verb_of-verb.ensures file c.in-None.ensures.asks),
+    )

@@ -1,10 +1,10 @@
-use Rattle.std.proofs.Common.{subst, sym, ◌≡◌, [], true, refl, ap, inl, inr, ◌∙◌}
+use Rattle.std.proofs.Common.{subst, ◌≡◌, [], true, refl, ap, inl, inr, ◌∙◌}
 use Rattle.clap.specs.declared.error.Error.{Error}
 use Rattle.clap.specs.declared.error.kind.ErrorKind.{ErrorKind}
 use Rattle.clap.specs.Words.{App, HasKind, Kinds, fault_of, is_simple, is_simple_and_free, kind_of, subcommand_of}
 use Rattle.clap.proofs.OnLiterals.{clap_on_literals}
 use Rattle.command_line.specs.Shapes.{bohm_app, texts_of}
-use Rattle.command_line.specs.Words.{Asks, AsksOutsideLimits, progress_in}
+use Rattle.command_line.specs.Words.{Asks, IsMisuse, progress_in}
 use Rattle.command_line.proofs.Telling.{told}
 use Rattle.command_line.proofs.command_words.read_words.Goals as goal
 
@@ -23,25 +23,32 @@ no_kind error has = elim has [
   | inr among ↦ absurd among
 ]
 
-pub returns-in-Some-clause-taken : goal.returns-in-Some-clause-taken
-returns-in-Some-clause-taken c =
+pub returns-in-Ok-command_in-clause-taken : goal.returns-in-Ok-command_in-clause-taken
+returns-in-Ok-command_in-clause-taken c =
     subst (λ (a : App). fault_of a (texts_of c.args.words.now) ≡ []) c.in-Ok.ensures
     (c.in-Ok-try_get_matches_from.ensures.kinds (ap is_simple_and_free c.in-Ok.ensures ∙ simple_and_free))
 
-pub returns-in-Some-clause-asked : goal.returns-in-Some-clause-asked
-returns-in-Some-clause-asked c =
+pub returns-in-Ok-command_in-clause-asked : goal.returns-in-Ok-command_in-clause-asked
+returns-in-Ok-command_in-clause-asked c =
     let found = (c.in-Ok-try_get_matches_from.ensures.matches (ap is_simple c.in-Ok.ensures ∙ simple)).1 in
-    subst (Asks c.in-Some.command) (found ∙ ap (λ (a : App). subcommand_of a (texts_of c.args.words.now)) c.in-Ok.ensures) (sym c.in-Some.ensures.asks)
+    subst (Asks c.in-Ok-command_in.command) (found ∙ ap (λ (a : App). subcommand_of a (texts_of c.args.words.now)) c.in-Ok.ensures) c.in-Ok-command_in.ensures.asks
 
-pub returns-in-Some-clause-progress : goal.returns-in-Some-clause-progress
-returns-in-Some-clause-progress c =
+pub returns-in-Ok-command_in-clause-progress : goal.returns-in-Ok-command_in-clause-progress
+returns-in-Ok-command_in-clause-progress c =
     let found = (c.in-Ok-try_get_matches_from.ensures.matches (ap is_simple c.in-Ok.ensures ∙ simple)).1 in
     c.progress_in.ensures ∙ ap progress_in (found ∙ ap (λ (a : App). subcommand_of a (texts_of c.args.words.now)) c.in-Ok.ensures)
 
-pub returns-clause-outside : goal.returns-clause-outside
-returns-clause-outside c _ =
+pub returns-clause-fault : goal.returns-clause-fault
+returns-clause-fault c none =
     let found = (c.in-Ok-try_get_matches_from.ensures.matches (ap is_simple c.in-Ok.ensures ∙ simple)).1 in
-    subst AsksOutsideLimits (found ∙ ap (λ (a : App). subcommand_of a (texts_of c.args.words.now)) c.in-Ok.ensures) (sym c.in-None.ensures.asks)
+    inr (subst (IsMisuse c.in-Err-command_in.usage) (found ∙ ap (λ (a : App). subcommand_of a (texts_of c.args.words.now)) c.in-Ok.ensures)
+    c.in-Err-command_in.ensures.misused)
+
+pub returns-clause-told : goal.returns-clause-told
+returns-clause-told c =
+    let found = (c.in-Ok-try_get_matches_from.ensures.matches (ap is_simple c.in-Ok.ensures ∙ simple)).1 in
+    inl (subst (IsMisuse c.in-Err-command_in.usage) (found ∙ ap (λ (a : App). subcommand_of a (texts_of c.args.words.now)) c.in-Ok.ensures)
+    c.in-Err-command_in.ensures.misused)
 
 pub returns-in-Err-try_get_matches_from-clause-fault : goal.returns-in-Err-try_get_matches_from-clause-fault
 returns-in-Err-try_get_matches_from-clause-fault c none =

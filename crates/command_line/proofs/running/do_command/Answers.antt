@@ -1,24 +1,31 @@
-use Rattle.std.proofs.Common.{◌≡◌, ℕ, Err, List, Option, ap, subst}
-use Rattle.std.specs.Prelude.{IfSome}
+use Rattle.std.proofs.Common.{◌≡◌, List, Option, subst, sym}
+use Rattle.std.specs.Prelude.{ℕ, IfSome}
+use Rattle.audit_text.specs.Texts.{BeginsText}
 use Rattle.audit_text.specs.declared.fault.WorkFault.{WorkFault}
-use Rattle.command_line.specs.Running.{LacksItsTable, LacksPlace}
-use Rattle.command_line.proofs.Told.{lacks_as, lacks_table_as}
+use Rattle.command_line.specs.Running.{AnswersCommand, CommandLacks}
+use Rattle.command_line.specs.Tasks.{IsLack}
+use Rattle.command_line.proofs.Told.{begins_as, lacks_as}
 use Rattle.command_line.proofs.running.do_command.Goals as goal
 
-pub returns-clause-none : goal.returns-clause-none
-returns-clause-none g c = λ places is.
-    let one : c.in-Err-work.fault ≡ WorkFault.NoSuchPlace places = cc in
-    let none = c.in-Err-work.ensures.none places (ap (λ (fault : WorkFault). Err fault) one) in (
-      none.0,
-      subst (λ (bytes : Option (List ℕ)). IfSome bytes (LacksPlace c.args.command places)) c.in-Ok.ensures.bytes
-          (lacks_as c.in-Ok.opened.arrival c.args.command c.task_of-task.result places _ c.task_of-task.ensures.task none.1),
+pub returns-clause-lacks : goal.returns-clause-lacks
+returns-clause-lacks g c = λ fault is lack.
+    let same : c.in-Err-work.fault ≡ fault = cc in
+    let lacks = c.in-Err-work.ensures.lacks (subst IsLack (sym same) lack) in (
+      lacks.0,
+      subst (λ (bytes : Option (List ℕ)). IfSome bytes (CommandLacks c.args.command fault)) c.in-Ok.ensures.bytes
+          (lacks_as c.in-Ok.opened.arrival c.args.command c.task_of-task.result c.in-Err-work.fault fault _ c.task_of-task.ensures.task same lacks.1),
     )
 
-pub returns-clause-table : goal.returns-clause-table
-returns-clause-table g c = λ is.
-    let one : c.in-Err-work.fault ≡ WorkFault.NoSuchTable = cc in
-    let none = c.in-Err-work.ensures.table (ap (λ (fault : WorkFault). Err fault) one) in (
-      none.0,
-      subst (λ (bytes : Option (List ℕ)). IfSome bytes (LacksItsTable c.args.command)) c.in-Ok.ensures.bytes
-          (lacks_table_as c.in-Ok.opened.arrival c.args.command c.task_of-task.result _ c.task_of-task.ensures.task none.1),
-    )
+pub returns-in-Ok-work-clause-begun : goal.returns-in-Ok-work-clause-begun
+returns-in-Ok-work-clause-begun g c =
+    let old = g.W.Write.contents c.args.told.now.inner in
+    let new = g.W.Write.contents c.work.new.told.inner in
+    subst (λ (bytes : Option (List ℕ)). BeginsText (AnswersCommand c.args.command) bytes old new) c.in-Ok.ensures.bytes
+    (begins_as c.in-Ok.opened.arrival c.args.command c.task_of-task.result _ old new c.task_of-task.ensures.task c.in-Ok-work.ensures.text.1)
+
+pub returns-clause-begun : goal.returns-clause-begun
+returns-clause-begun g c =
+    let old = g.W.Write.contents c.args.told.now.inner in
+    let new = g.W.Write.contents c.work.new.told.inner in
+    subst (λ (bytes : Option (List ℕ)). BeginsText (AnswersCommand c.args.command) bytes old new) c.in-Ok.ensures.bytes
+    (begins_as c.in-Ok.opened.arrival c.args.command c.task_of-task.result _ old new c.task_of-task.ensures.task c.in-Err-work.ensures.text.1)
