@@ -9,7 +9,7 @@ use Rattle.audit_text.specs.declared.fault.WorkFault.{WorkFault}
 use Rattle.batched_text.specs.declared.settings.Arrival.{Arrival}
 use Rattle.privileges_text.specs.Questions.{IsHistory, IsHolders, LacksUser}
 use Rattle.command_line.specs.Options.{IfGiven, place_named, rows_named}
-use Rattle.command_line.specs.Tasks.{NoPlace, SaysLack}
+use Rattle.command_line.specs.Tasks.{NoneNamed, SaysLack}
 use Rattle.command_line.specs.Ways.{is_alone}
 use Rattle.command_line.specs.Words.{path_of}
 use Rattle.command_line.specs.declared.command_words.Command.{Command}
@@ -40,8 +40,8 @@ AnswersCommand (Command.History source which) input text = IsHistory input which
 
 -- the log hasn't what a command asks for, as a fault says
 abbrev pub CommandLacks : Command → WorkFault → List ℕ → Type 0
-CommandLacks (Command.Run source settings ahead) fault input = SaysLack NoPlace ⊥ ⊥ fault
-CommandLacks (Command.Serial source) fault input = SaysLack NoPlace ⊥ ⊥ fault
+CommandLacks (Command.Run source settings ahead) fault input = SaysLack NoneNamed ⊥ ⊥ fault
+CommandLacks (Command.Serial source) fault input = SaysLack NoneNamed ⊥ ⊥ fault
 CommandLacks (Command.Explain source question) fault input = SaysLack (HasNoPlace input question.place) ⊥ ⊥ fault
 CommandLacks (Command.Grants source limit) fault input = SaysLack (EndsBefore input (place_named limit)) ⊥ ⊥ fault
 CommandLacks (Command.Rows source which) fault input =
@@ -49,7 +49,7 @@ CommandLacks (Command.Rows source which) fault input =
 CommandLacks (Command.Holders source which) fault input =
     SaysLack (EndsBefore input which.limit) (LacksTable input (Some which.table.now) which.limit) ⊥ fault
 CommandLacks (Command.History source which) fault input =
-    SaysLack NoPlace (LacksTable input (Some which.table.now) None) (LacksUser input which.user.now) fault
+    SaysLack NoneNamed (LacksTable input (Some which.table.now) None) (LacksUser input which.user.now) fault
 
 -- the end of a command's work, or of that on its log
 abbrev pub EndOf : Type 0 → Type 0

@@ -49,14 +49,14 @@ SaysLack place table user WorkFault.NoSuchUser = user
 SaysLack place table user (WorkFault.Run fault) = Unit {0}
 
 -- where no place is asked for
-abbrev pub NoPlace : ℕ → Type 0
-NoPlace places = ⊥
+abbrev pub NoneNamed : ℕ → Type 0
+NoneNamed places = ⊥
 
 -- the log hasn't what a task asks for, as such a fault says
 abbrev pub TaskLacks : Task → WorkFault → List ℕ → Type 0
-TaskLacks (Task.InOrder threads) fault input = SaysLack NoPlace ⊥ ⊥ fault
-TaskLacks (Task.InBatches settings arrival) fault input = SaysLack NoPlace ⊥ ⊥ fault
-TaskLacks Task.Slow fault input = SaysLack NoPlace ⊥ ⊥ fault
+TaskLacks (Task.InOrder threads) fault input = SaysLack NoneNamed ⊥ ⊥ fault
+TaskLacks (Task.InBatches settings arrival) fault input = SaysLack NoneNamed ⊥ ⊥ fault
+TaskLacks Task.Slow fault input = SaysLack NoneNamed ⊥ ⊥ fault
 TaskLacks (Task.Explain question) fault input = SaysLack (HasNoPlace input question.place) ⊥ ⊥ fault
 TaskLacks (Task.Picture limit) fault input = SaysLack (EndsBefore input (place_named limit)) ⊥ ⊥ fault
 TaskLacks (Task.List which) fault input =
@@ -64,7 +64,7 @@ TaskLacks (Task.List which) fault input =
 TaskLacks (Task.Holders which) fault input =
     SaysLack (EndsBefore input which.limit) (LacksTable input (Some which.table.now) which.limit) ⊥ fault
 TaskLacks (Task.History which) fault input =
-    SaysLack NoPlace (LacksTable input (Some which.table.now) None) (LacksUser input which.user.now) fault
+    SaysLack NoneNamed (LacksTable input (Some which.table.now) None) (LacksUser input which.user.now) fault
 
 -- the work didn't end for want of a place
 abbrev pub LacksNoPlace : Result (Unit {0}) WorkFault → Type 0

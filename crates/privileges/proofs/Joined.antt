@@ -16,8 +16,8 @@ use Rattle.model_base.proofs.Ranked.{rank-places}
 use Rattle.grants_base.specs.Book.{Entries, ShowsBook}
 use Rattle.grants_base.proofs.Lookups.{rise_at}
 use Rattle.privileges.specs.declared.spanning.Span.{Span}
-use Rattle.privileges.specs.Joining.{later_end, reaches, span_of}
-use Rattle.privileges.specs.Spans.{AreApart, AreSpans, EndsBefore, is_within}
+use Rattle.privileges.specs.Joining.{later_end, lasts_until, span_of}
+use Rattle.privileges.specs.Spans.{AreSeparate, AreSpans, IsOverBefore, is_within}
 use Rattle.privileges.proofs.Named.{any_more}
 use Rattle.privileges.proofs.Told.{holds-given}
 
@@ -29,33 +29,33 @@ abbrev BeginsBy : ℕ → Span → Type 0
 BeginsBy place other = other.from ≤ place
 
 -- one more, which begins above all ends, keeps them apart
-apart_push : (spans : List Span) (span : Span) → AreApart spans → All (λ other. EndsBefore other span) spans → Lasts span → AreApart (spans ++ span ∷ [])
-apart_push [] span apart before lasts = (lasts, All-nil (EndsBefore span), tt)
+apart_push : (spans : List Span) (span : Span) → AreSeparate spans → All (λ other. IsOverBefore other span) spans → Lasts span → AreSeparate (spans ++ span ∷ [])
+apart_push [] span apart before lasts = (lasts, All-nil (IsOverBefore span), tt)
 apart_push (first ∷ spans) span apart before lasts = (
   apart.0,
-  All-push (EndsBefore first) spans span apart.1 (All-head (λ other. EndsBefore other span) first spans before),
-  apart_push spans span apart.2 (All-tail (λ other. EndsBefore other span) first spans before) lasts,
+  All-push (IsOverBefore first) spans span apart.1 (All-head (λ other. IsOverBefore other span) first spans before),
+  apart_push spans span apart.2 (All-tail (λ other. IsOverBefore other span) first spans before) lasts,
 )
 
 -- each ends below where the last one begins
-ends_before : (first last span : Span) → EndsBefore first last → last.from ≤ span.from → EndsBefore first span
+ends_before : (first last span : Span) → IsOverBefore first last → last.from ≤ span.from → IsOverBefore first span
 ends_before first last span before later = ends first.to before
   where
     ends : (to : Option ℕ) → IsSomeAnd to (λ end. end < last.from) → IsSomeAnd to (λ end. end < span.from)
     ends None none = none
     ends (Some end) less = omega arith
 
-before_last : (spans : List Span) (last span : Span) → AreApart (spans ++ last ∷ []) → last.from ≤ span.from → EndsBefore last span
-    → All (λ other. EndsBefore other span) (spans ++ last ∷ [])
-before_last [] last span apart later ends = All-cons (λ other. EndsBefore other span) last [] ends (All-nil (λ other. EndsBefore other span))
+before_last : (spans : List Span) (last span : Span) → AreSeparate (spans ++ last ∷ []) → last.from ≤ span.from → IsOverBefore last span
+    → All (λ other. IsOverBefore other span) (spans ++ last ∷ [])
+before_last [] last span apart later ends = All-cons (λ other. IsOverBefore other span) last [] ends (All-nil (λ other. IsOverBefore other span))
 before_last (first ∷ spans) last span apart later ends =
-    All-cons (λ other. EndsBefore other span) first (spans ++ last ∷ [])
+    All-cons (λ other. IsOverBefore other span) first (spans ++ last ∷ [])
     (ends_before first last span (last_of spans apart.1) later)
     (before_last spans last span apart.2 later ends)
   where
-    last_of : (others : List Span) → All (EndsBefore first) (others ++ last ∷ []) → EndsBefore first last
-    last_of [] all = All-head (EndsBefore first) last [] all
-    last_of (other ∷ others) all = last_of others (All-tail (EndsBefore first) other (others ++ last ∷ []) all)
+    last_of : (others : List Span) → All (IsOverBefore first) (others ++ last ∷ []) → IsOverBefore first last
+    last_of [] all = All-head (IsOverBefore first) last [] all
+    last_of (other ∷ others) all = last_of others (All-tail (IsOverBefore first) other (others ++ last ∷ []) all)
 
 -- the last one, made longer, stays apart from those before it
 abbrev pub merged : Span → Span → Span
@@ -73,11 +73,11 @@ lasting from None (Some second) lasts = tt
 lasting from (Some first) None lasts = tt
 lasting from (Some first) (Some second) lasts = omega arith
 
-merged_apart : (spans : List Span) (last span : Span) → AreApart (spans ++ last ∷ []) → AreApart (spans ++ merged last span ∷ [])
-merged_apart [] last span apart = (lasting last.from last.to span.to apart.0, All-nil (EndsBefore (merged last span)), tt)
+merged_apart : (spans : List Span) (last span : Span) → AreSeparate (spans ++ last ∷ []) → AreSeparate (spans ++ merged last span ∷ [])
+merged_apart [] last span apart = (lasting last.from last.to span.to apart.0, All-nil (IsOverBefore (merged last span)), tt)
 merged_apart (first ∷ spans) last span apart = (
   apart.0,
-  replaced (EndsBefore first) spans last (merged last span) (λ ends. ends) apart.1,
+  replaced (IsOverBefore first) spans last (merged last span) (λ ends. ends) apart.1,
   merged_apart spans last span apart.2,
 )
 
@@ -86,7 +86,7 @@ last_ends None place over = absurd (cc)
 last_ends (Some end) place over = grind (arith, nat_tests, over)
 
 -- what joining makes of the spans
-pub joined_longer : (old rest : List Span) (last span : Span) (new : List Span) → old ≡ rest ++ last ∷ [] → new ≡ rest ++ merged last span ∷ [] → AreApart old → AreApart new
+pub joined_longer : (old rest : List Span) (last span : Span) (new : List Span) → old ≡ rest ++ last ∷ [] → new ≡ rest ++ merged last span ∷ [] → AreSeparate old → AreSeparate new
 joined_longer old rest last span new was is apart = rw is (merged_apart rest last span (rw was at apart))
 
 pub joined_later : (old rest : List Span) (last span : Span) (new : List Span) → old ≡ rest ++ last ∷ [] → new ≡ rest ++ merged last span ∷ []
@@ -94,9 +94,9 @@ pub joined_later : (old rest : List Span) (last span : Span) (new : List Span) �
 joined_later old rest last span new was is later = rw is (replaced (BeginsBy span.from) rest last (merged last span) (λ by. by) (rw was at later))
 
 pub joined_after : (old rest : List Span) (last span : Span) (new : List Span) → old ≡ rest ++ last ∷ [] → new ≡ (rest ++ last ∷ []) ++ span ∷ []
-    → reaches last span.from ≡ false → All (BeginsBy span.from) old → Lasts span → AreApart old → AreApart new
+    → lasts_until last span.from ≡ false → All (BeginsBy span.from) old → Lasts span → AreSeparate old → AreSeparate new
 joined_after old rest last span new was is over later lasts apart =
-    let there : AreApart (rest ++ last ∷ []) = rw was at apart in
+    let there : AreSeparate (rest ++ last ∷ []) = rw was at apart in
     rw is
     (apart_push (rest ++ last ∷ []) span there
     (before_last rest last span there (last_of rest (rw was at later)) (last_ends last.to span.from over)) lasts)
@@ -163,7 +163,7 @@ any_as p q same [] = refl
 any_as p q same (x ∷ xs) = ap (λ b. b || list_any p xs) (same x) ∙ ap (λ b. q x || b) (any_as p q same xs)
 
 pub are_spans : (book : Entries) (owners : List ℕ) (deeds : List Deed) (user : ℕ) (need : Need) (spans : List Span) → ShowsBook book owners deeds
-    → owns owners user need.table ≡ false → AreApart spans
+    → owns owners user need.table ≡ false → AreSeparate spans
     → ((place : ℕ) → list_any (is_within place) spans ≡ list_any (gives_in user need place) book.records)
     → AreSpans owners deeds user need spans
 are_spans book owners deeds user need spans shows other apart told = record {

@@ -22,7 +22,7 @@ use Rattle.grants_base.specs.Book.{Entries, ShowsBook, owners_of}
 use Rattle.grants_base.specs.declared.entries.Creation.{Creation}
 use Rattle.grants.proofs.BookLaws.{get_more}
 use Rattle.grants.proofs.Passing.{owns_owner}
-use Rattle.privileges.specs.Holders.{gives_by_name, gives_everyone, is_holder, is_public}
+use Rattle.privileges.specs.Holders.{gives_by_name, gives_everyone, is_holder, is_given_to_all}
 
 -- one of the grants in force at a place passes exactly if one of the records in force there does
 any_at : (passes : Grant → Bool) (place : ℕ) (entries : List Record)
@@ -144,11 +144,11 @@ owned_or false named everyone = refl
 
 -- who holds a privilege owns the table, is a holder by name, or holds it as everyone does
 pub holds-all : (owners : List ℕ) (deeds : List Deed) (user : ℕ) (need : Need)
-    → holds owners deeds user need ≡ (owns owners user need.table || (is_holder owners deeds need user || is_public owners deeds need))
+    → holds owners deeds user need ≡ (owns owners user need.table || (is_holder owners deeds need user || is_given_to_all owners deeds need))
 unfolding has
 holds-all owners deeds user need =
     ap (λ b. owns owners user need.table || b) (any_either user need (kept owners deeds))
-    ∙ owned_or (owns owners user need.table) (list_any (λ grant. gives_by_name grant user need) (kept owners deeds)) (is_public owners deeds need)
+    ∙ owned_or (owns owners user need.table) (list_any (λ grant. gives_by_name grant user need) (kept owners deeds)) (is_given_to_all owners deeds need)
 
 -- and the option by name
 everyone-none : (grant : Grant) (need : Need) → need.option ≡ true → gives_everyone grant need ≡ false

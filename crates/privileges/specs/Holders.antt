@@ -25,8 +25,8 @@ is_holder owners deeds need user =
     not (owns owners user need.table) && list_any (λ grant. gives_by_name grant user need) (kept owners deeds)
 
 -- whether a grant in force gives every user what is needed
-abbrev pub is_public : List ℕ → List Deed → Need → Bool
-is_public owners deeds need = list_any (λ grant. gives_everyone grant need) (kept owners deeds)
+abbrev pub is_given_to_all : List ℕ → List Deed → Need → Bool
+is_given_to_all owners deeds need = list_any (λ grant. gives_everyone grant need) (kept owners deeds)
 
 -- these are the holders, by number, each once
 pub record AreHolders (owners : List ℕ) (deeds : List Deed) (need : Need) (users : List ℕ) : Type 0 where

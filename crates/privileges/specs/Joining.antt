@@ -9,8 +9,8 @@ abbrev pub span_of : Record → Span
 span_of entry = record { from = entry.grant.place; to = entry.end }
 
 -- whether the span lasts until the place
-abbrev pub reaches : Span → ℕ → Bool
-reaches span place = option_map_or (λ to. nat_le place to) span.to true
+abbrev pub lasts_until : Span → ℕ → Bool
+lasts_until span place = option_map_or (λ to. nat_le place to) span.to true
 
 -- the later of two ends, of which none is the latest
 abbrev pub later_end : Option ℕ → Option ℕ → Option ℕ

@@ -13,15 +13,15 @@ abbrev pub is_within : ℕ → Span → Bool
 is_within place span = nat_lt span.from place && option_map_or (λ to. nat_le place to) span.to true
 
 -- the span ends below the beginning of a later one
-abbrev pub EndsBefore : Span → Span → Type 0
-EndsBefore span later = IsSomeAnd span.to (λ to. to < later.from)
+abbrev pub IsOverBefore : Span → Span → Type 0
+IsOverBefore span later = IsSomeAnd span.to (λ to. to < later.from)
 
 -- each span ends above its beginning, and below those after it; so only the last may be open
-abbrev pub AreApart : List Span → Type 0
-AreApart [] = Unit {0}
-AreApart (span ∷ later) = IfSome span.to (λ to. span.from < to) × All (EndsBefore span) later × AreApart later
+abbrev pub AreSeparate : List Span → Type 0
+AreSeparate [] = Unit {0}
+AreSeparate (span ∷ later) = IfSome span.to (λ to. span.from < to) × All (IsOverBefore span) later × AreSeparate later
 
 -- the spans are those in which the user holds what is needed: it is held by the deeds below a place exactly if the place lies in one
 pub record AreSpans (owners : List ℕ) (deeds : List Deed) (user : ℕ) (need : Need) (spans : List Span) : Type 0 where
-  pub apart : AreApart spans
+  pub apart : AreSeparate spans
   pub tells : (place : ℕ) → holds owners (deeds_below place deeds) user need ≡ list_any (is_within place) spans

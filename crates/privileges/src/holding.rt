@@ -9,7 +9,7 @@ ghost use Rattle.model_base.specs.Privileges.{deeds_below};
 ghost use Rattle.model_base.specs.Records.{is_in_force_at};
 ghost use Rattle.grants_base.specs.Book.{ShowsBook, owners_of};
 ghost use Rattle.grants_base.specs.Index.{is_one_of};
-ghost use Rattle.privileges.specs.Holders.{AreHolders, gives_by_name, gives_everyone, is_public};
+ghost use Rattle.privileges.specs.Holders.{AreHolders, gives_by_name, gives_everyone, is_given_to_all};
 
 use crate::in_force::is_in_force_at;
 use grants::{Book, Holder, is_to};
@@ -99,9 +99,9 @@ fn gives_everyone(grant: &Grant, need: &Need) -> bool
 }
 
 /// Whether a grant to PUBLIC, in force before the place, gives what is needed. It goes once through the records.
-pub fn is_public(book: &Book, place: Place, need: &Need) -> bool
+pub fn is_given_to_all(book: &Book, place: Place, need: &Need) -> bool
     ensures { (owners : List ℕ) (deeds : List Deed) → ShowsBook book.now owners deeds
-        → result ≡ is_public owners (deeds_below place deeds) need.now }
+        → result ≡ is_given_to_all owners (deeds_below place deeds) need.now }
 {
     for record in book.records() {
         if is_in_force_at(record, place) && gives_everyone(&record.grant, need) {

@@ -8,7 +8,7 @@ ghost use Rattle.model_base.specs.declared.statement.Statement.{Statement};
 ghost use Rattle.model_base.specs.Outcomes.{deeds_before, owners};
 ghost use Rattle.model_base.specs.Privileges.{holds, owns};
 ghost use Rattle.privileges.specs.declared.spanning.Span.{Span};
-ghost use Rattle.privileges.specs.Holders.{is_holder, is_public};
+ghost use Rattle.privileges.specs.Holders.{is_holder, is_given_to_all};
 ghost use Rattle.privileges.specs.Spans.{AreSpans, is_within};
 
 /// A user holds a privilege exactly if the user owns the table, is a holder by name, or a grant to PUBLIC gives it. None to PUBLIC gives the
@@ -16,7 +16,7 @@ ghost use Rattle.privileges.specs.Spans.{AreSpans, is_within};
 pub fn holders_are_all()
     ensures all { (owners : List ℕ) (deeds : List Deed) (user : ℕ) (need : Need)
         → holds owners deeds user need
-        ≡ (owns owners user need.table || (is_holder owners deeds need user || is_public owners deeds need)) }
+        ≡ (owns owners user need.table || (is_holder owners deeds need user || is_given_to_all owners deeds need)) }
     ensures option { (owners : List ℕ) (deeds : List Deed) (user : ℕ) (need : Need) → need.option ≡ true
         → holds owners deeds user need ≡ (owns owners user need.table || is_holder owners deeds need user) }
 {}

@@ -7,8 +7,8 @@ ghost use Rattle.model_base.specs.declared.deed.Record.{Record};
 ghost use Rattle.model_base.specs.Privileges.{owns};
 ghost use Rattle.grants_base.specs.Book.{ShowsBook};
 ghost use Rattle.privileges.specs.declared.spanning.Span.{Span};
-ghost use Rattle.privileges.specs.Spans.{AreApart, AreSpans, is_within};
-ghost use Rattle.privileges.specs.Joining.{later_end, reaches, span_of};
+ghost use Rattle.privileges.specs.Spans.{AreSeparate, AreSpans, is_within};
+ghost use Rattle.privileges.specs.Joining.{later_end, lasts_until, span_of};
 
 use grants::Book;
 use model_base::{Need, Place, Record, User};
@@ -32,8 +32,8 @@ fn span_of(entry: &Record) -> Span
 }
 
 /// Whether the span lasts until the place.
-fn reaches(span: &Span, place: Place) -> bool
-    ensures { result ≡ reaches span.now place }
+fn lasts_until(span: &Span, place: Place) -> bool
+    ensures { result ≡ lasts_until span.now place }
 {
     span.to.is_none_or(|to| place <= to)
 }
@@ -50,16 +50,16 @@ fn later_end(to: Option<Place>, other: Option<Place>) -> Option<Place>
 
 /// Joins a span to the last, if that lasts until it begins, or else adds it after the others, none of which begins later.
 fn join(spans: &mut Vec<Span>, span: Span) -> Result<(), AllocError>
-    requires apart { AreApart spans.old.items }
+    requires apart { AreSeparate spans.old.items }
     requires later { All (λ (other : Span). other.from ≤ span.from) spans.old.items }
     requires lasts { IfSome span.to (λ to. span.from < to) }
-    ensures apart { OnOk result (AreApart spans.new.items) }
+    ensures apart { OnOk result (AreSeparate spans.new.items) }
     ensures later { OnOk result (All (λ (other : Span). other.from ≤ span.from) spans.new.items) }
     ensures tells { OnOk result ((place : ℕ) → list_any (is_within place) spans.new.items
         ≡ (list_any (is_within place) spans.old.items || is_within place span)) }
 {
     match spans.pop() {
-        Some(last) if reaches(&last, span.from) => spans.push(Span {
+        Some(last) if lasts_until(&last, span.from) => spans.push(Span {
             from: last.from,
             to: later_end(last.to, span.to),
         })?,

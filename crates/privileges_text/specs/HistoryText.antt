@@ -12,7 +12,7 @@ use Rattle.sequencer.specs.Names.{known_number}
 use Rattle.privileges.specs.Spans.{AreSpans}
 use Rattle.privileges.specs.declared.spanning.Span.{Span}
 use Rattle.privileges_text.specs.declared.ways.UserNeed.{UserNeed}
-use Rattle.privileges_text.specs.Ways.{ending_text}
+use Rattle.privileges_text.specs.Ways.{way_ending}
 
 -- the place that ended a span, if one did
 abbrev pub to_text : Option ℕ → List ℕ
@@ -20,12 +20,12 @@ to_text None = []
 to_text (Some to) = codes " to " ++ decimal to
 
 -- the places of a span
-abbrev pub range_text : Span → List ℕ
-range_text span = codes "from " ++ decimal span.from ++ to_text span.to
+abbrev pub span_range_text : Span → List ℕ
+span_range_text span = codes "from " ++ decimal span.from ++ to_text span.to
 
 -- the line of a span: its places, and the way right after the first
 abbrev pub span_text : Accepted → UserNeed → Span → List ℕ
-span_text log of span = range_text span ++ ending_text log (span.from + 1) of
+span_text log of span = span_range_text span ++ way_ending log (span.from + 1) of
 
 -- the lines of the spans
 abbrev pub spans_text : Accepted → UserNeed → List Span → List ℕ
@@ -33,8 +33,8 @@ spans_text log of [] = codes "never\n"
 spans_text log of (span ∷ spans) = flat_map (span_text log of) (span ∷ spans)
 
 -- the line of the table's owner: the place of its creation
-abbrev pub owner_text : ℕ → List ℕ
-owner_text place = codes "owner from " ++ decimal place ++ codes "\n"
+abbrev pub owner_since_text : ℕ → List ℕ
+owner_since_text place = codes "owner from " ++ decimal place ++ codes "\n"
 
 -- the text has the place at which the user's own table was created, by a book of all that the log's deeds made and ended
 pub record TellsOwner (log : Accepted) (of : UserNeed) (text : List ℕ) : Type 0 where
@@ -42,7 +42,7 @@ pub record TellsOwner (log : Accepted) (of : UserNeed) (text : List ℕ) : Type 
   pub shows : ShowsBook book (owners log.statements) (deeds_before log.statements (length log.statements))
   pub creation : Creation
   pub created : slice_get book.tables of.need.table ≡ Some creation
-  pub told : text ≡ owner_text creation.place
+  pub told : text ≡ owner_since_text creation.place
 
 -- the text has a line for each span in which the user held what is needed, in order, or says that this never was
 pub record TellsSpans (log : Accepted) (of : UserNeed) (text : List ℕ) : Type 0 where
@@ -52,7 +52,8 @@ pub record TellsSpans (log : Accepted) (of : UserNeed) (text : List ℕ) : Type 
 
 -- the history of a need: of the table's owner, or of another user
 abbrev pub TellsHistoryOf : Accepted → UserNeed → List ℕ → Type 0
-TellsHistoryOf log of text = MatchBool (owns (owners log.statements) of.user of.need.table) (TellsOwner log of text) (TellsSpans log of text)
+TellsHistoryOf log of text =
+    MatchBool (owns (owners log.statements) of.user of.need.table) (TellsOwner log of text) (TellsSpans log of text)
 
 -- so it is for a user and a table of these names
 pub record TellsHistory (log : Accepted) (user : List ℕ) (kind : Kind) (name : List ℕ) (option : Bool) (text : List ℕ) : Type 0 where

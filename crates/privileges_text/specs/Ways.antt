@@ -13,5 +13,5 @@ way_text log place of =
     (shown_of (owners log.statements) (deeds_before log.statements (length log.statements)) place of.user of.need)
 
 -- so a line ends
-abbrev pub ending_text : Accepted → ℕ → UserNeed → List ℕ
-ending_text log place of = way_text log place of ++ codes "\n"
+abbrev pub way_ending : Accepted → ℕ → UserNeed → List ℕ
+way_ending log place of = way_text log place of ++ codes "\n"

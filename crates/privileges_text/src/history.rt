@@ -9,7 +9,7 @@ ghost use Rattle.engine.specs.Engine.{finished};
 ghost use Rattle.sequencer.specs.Names.{known_number};
 ghost use Rattle.audit_text.specs.declared.fault.WorkFault.{WorkFault};
 ghost use Rattle.privileges.specs.declared.spanning.Span.{Span};
-ghost use Rattle.privileges_text.specs.HistoryText.{TellsHistory, TellsHistoryOf, TellsOwner, TellsSpans, owner_text, range_text, span_text, spans_text, to_text};
+ghost use Rattle.privileges_text.specs.HistoryText.{TellsHistory, TellsHistoryOf, TellsOwner, TellsSpans, owner_since_text, span_range_text, span_text, spans_text, to_text};
 
 use crate::asking::HistoryAsked;
 use crate::running::{book_of, owner_of, table_named, user_named};
@@ -33,7 +33,7 @@ fn put_to(text: &mut Vec<u8>, to: Option<Place>) -> Result<(), AllocError>
 
 /// Appends the places of a span.
 fn put_range(text: &mut Vec<u8>, span: &Span) -> Result<(), AllocError>
-    ensures { OnOk result (text.new.items ≡ text.old.items ++ range_text span.now) }
+    ensures { OnOk result (text.new.items ≡ text.old.items ++ span_range_text span.now) }
 {
     text.extend_from_slice(b"from ")?;
     put_place(text, span.from)?;
@@ -116,7 +116,7 @@ fn put_spans(
 
 /// Writes the line of the table's owner.
 fn put_owner_line(text: &mut Vec<u8>, place: Place) -> Result<(), AllocError>
-    ensures { OnOk result (text.new.items ≡ text.old.items ++ owner_text place) }
+    ensures { OnOk result (text.new.items ≡ text.old.items ++ owner_since_text place) }
 {
     text.extend_from_slice(b"owner from ")?;
     put_place(text, place)?;

@@ -8,7 +8,7 @@ ghost use Rattle.model_base.specs.Privileges.{holds};
 ghost use Rattle.engine.specs.Engine.{finished};
 ghost use Rattle.sequencer.specs.Names.{known_number};
 ghost use Rattle.audit_text.specs.declared.fault.WorkFault.{WorkFault};
-ghost use Rattle.privileges_text.specs.HoldersText.{ListsHolders, ListsHoldersOf, called_text, holder_lines, holder_text, option_text, public_text, with_option};
+ghost use Rattle.privileges_text.specs.HoldersText.{ListsHolders, ListsHoldersOf, called_text, holder_lines, holder_text, option_text, public_line, with_option};
 
 use crate::running::{book_of, owner_of, table_named};
 use crate::ways::{UserNeed, put_ending};
@@ -16,7 +16,7 @@ use audit_text::{WorkFault, put_name};
 use engine::Engine;
 use grants::holds_option;
 use model_base::{Kind, Need, User};
-use privileges::{holders, is_public};
+use privileges::{holders, is_given_to_all};
 use std::alloc::{AllocError, Global};
 
 /// Appends the name of a user, and whether the option is spoken of.
@@ -122,10 +122,10 @@ fn put_public(
 ) -> Result<(), AllocError>
     requires all { finished engine.now ≡ length engine.now.log.statements }
     requires covered { need.now.table < length engine.now.log.names.tables }
-    ensures { OnOk result (text.new.items ≡ text.old.items ++ public_text engine.now.log need.now) }
+    ensures { OnOk result (text.new.items ≡ text.old.items ++ public_line engine.now.log need.now) }
 {
     let place = engine.log().len();
-    if !is_public(book_of(engine), place, need) {
+    if !is_given_to_all(book_of(engine), place, need) {
         return Ok(());
     }
     let of = UserNeed {

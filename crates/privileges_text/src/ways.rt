@@ -2,7 +2,7 @@
 
 ghost use Rattle.std.specs.Prelude.{◌≡◌, ◌<◌, ◌≤◌, ◌++◌, OnOk, length};
 ghost use Rattle.engine.specs.Engine.{finished};
-ghost use Rattle.privileges_text.specs.Ways.{ending_text, way_text};
+ghost use Rattle.privileges_text.specs.Ways.{way_ending, way_text};
 
 use crate::running::book_of;
 use audit_text::put_shown;
@@ -46,7 +46,7 @@ pub(crate) fn put_ending(
     requires all { finished engine.now ≡ length engine.now.log.statements }
     requires covered { of.now.need.table < length engine.now.log.names.tables }
     requires within { place ≤ length engine.now.log.statements }
-    ensures { OnOk result (text.new.items ≡ text.old.items ++ ending_text engine.now.log place of.now) }
+    ensures { OnOk result (text.new.items ≡ text.old.items ++ way_ending engine.now.log place of.now) }
 {
     put_way(alloc, text, engine, place, of)?;
     text.extend_from_slice(b"\n")

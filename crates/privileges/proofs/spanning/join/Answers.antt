@@ -21,4 +21,4 @@ pub returns-in_ok-push-in-Some-2-2-clause-apart : goal.returns-in_ok-push-in-Som
 returns-in_ok-push-in-Some-2-2-clause-apart c =
     joined_after c.args.spans.now.items c.pop.new.self.items c.in-Some.last c.args.span c.push-in-Some-2-2.new.self.items c.in-Some.ensures.items
     (c.in_ok-push-in-Some-2-2.ensures.items ∙ ap (λ (spans : List Span). spans ++ c.args.span ∷ []) c.in_ok-push-in-Some-2.ensures.items)
-    (sym c.reaches.ensures ∙ c.if-reaches.false) c.requires.later c.requires.lasts c.requires.apart
+    (sym c.lasts_until.ensures ∙ c.if-lasts_until.false) c.requires.later c.requires.lasts c.requires.apart

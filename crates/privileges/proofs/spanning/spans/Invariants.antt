@@ -5,13 +5,13 @@ use Rattle.model_base.specs.declared.deed.Record.{Record}
 use Rattle.model_base.specs.Privileges.{gives}
 use Rattle.privileges.specs.declared.spanning.Span.{Span}
 use Rattle.privileges.specs.Joining.{span_of}
-use Rattle.privileges.specs.Spans.{AreApart, is_within}
+use Rattle.privileges.specs.Spans.{AreSeparate, is_within}
 use Rattle.privileges.proofs.spanning.spans.Given as goal
 
 -- the spans are those of the records so far, and none begins above the records to come
 abbrev pub invariant-loop-record : goal.invariant-loop-record
 invariant-loop-record l = record {
-  apart : AreApart l.found.items;
+  apart : AreSeparate l.found.items;
   later :
       (k : ℕ) (entry : Record) → l.record-index ≤ k → slice_get l.book.records k ≡ Some entry
       → All (λ (span : Span). span.from ≤ entry.grant.place) l.found.items;

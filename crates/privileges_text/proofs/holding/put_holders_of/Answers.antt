@@ -7,7 +7,7 @@ use Rattle.model_base.specs.Privileges.{deeds_below}
 use Rattle.grants_base.specs.Book.{Entries, ShowsBook}
 use Rattle.sequencer.specs.Log.{Accepted}
 use Rattle.privileges.specs.Holders.{AreHolders}
-use Rattle.privileges_text.specs.HoldersText.{holder_lines, holder_text, public_text}
+use Rattle.privileges_text.specs.HoldersText.{holder_lines, holder_text, public_line}
 use Rattle.privileges_text.proofs.Ended.{all_below}
 use Rattle.privileges_text.proofs.holding.put_holders_of.Goals as goal
 
@@ -36,6 +36,6 @@ returns c =
       owned = c.owner_of-owner.ensures;
       users = users;
       holders = holders;
-      told = told ∙ ap (λ (start : List ℕ). start ++ public_text run.log need) lines;
+      told = told ∙ ap (λ (start : List ℕ). start ++ public_line run.log need) lines;
     })
     c.put_public.ensures

@@ -6,7 +6,7 @@ use Rattle.model_base.specs.Records.{is_in_force_at}
 use Rattle.privileges.specs.Holders.{gives_everyone}
 use Rattle.privileges.proofs.Named.{any_here}
 use Rattle.privileges.proofs.Told.{any_kept}
-use Rattle.privileges.proofs.holding.is_public.Goals as goal
+use Rattle.privileges.proofs.holding.is_given_to_all.Goals as goal
 
 pub returns-then-gives_everyone : goal.returns-then-gives_everyone
 returns-then-gives_everyone c = λ owners deeds shows.
