@@ -160,7 +160,8 @@ fn with_word<'a>(
 
 /// Adds the words KIND and TABLE, which have to be there, to a command's description.
 fn with_privilege<'a>(alloc: Global, command: Command<'a>) -> Result<Command<'a>, AllocError>
-    ensures { IfOk result (λ c. app_of c ≡ with_rule (with_rule (app_of command.entry) (required_rule (codes "KIND"))) (required_rule (codes "TABLE"))) }
+    ensures { IfOk result (λ c. app_of c
+        ≡ with_rule (with_rule (app_of command.entry) (required_rule (codes "KIND"))) (required_rule (codes "TABLE"))) }
 {
     let command = with_word(
         alloc,
