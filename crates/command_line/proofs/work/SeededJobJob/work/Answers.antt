@@ -71,6 +71,13 @@ returns-in-List-clause-lacks g c =
     ))
     (λ is. absurd ((not_by ended IsOfAnswer WorkFault.NoSuchUser c.rows_text.ensures.alone is).1 refl))
 
+pub returns-in-Holders-clause-text : goal.returns-in-Holders-clause-text
+returns-in-Holders-clause-text g c =
+    let log = g.R.Read.remaining c.args.log.now.inner in
+    let old = g.W.Write.contents c.args.told.now.inner in
+    let new = g.W.Write.contents c.holders_text.new.writer.inner in
+    subst (λ (task : Task). SaysText (AnswersTask task) log old new c.holders_text.result) (sym c.in-Holders.is) c.holders_text.ensures.text
+
 pub returns-in-Holders-clause-lacks : goal.returns-in-Holders-clause-lacks
 returns-in-Holders-clause-lacks g c =
     let log = g.R.Read.remaining c.args.log.now.inner in
