@@ -42,12 +42,20 @@ static int32_t explain(bohm *b, uint64_t place, size_t room) {
     return bohm_explain(b, place, out, room, &made);
 }
 
+static int32_t rows(bohm *b, const char *table, size_t room) {
+    memset(out, '#', sizeof out);
+    used = 0;
+    made = 99;
+    return bohm_rows(b, (const uint8_t *)table, strlen(table), out, room, &made);
+}
+
 static void try_closed(bohm *b, const char *what) {
     expect(step(b, "a CREATE t 1\n", sizeof out) == BOHM_CLOSED && gave(0, ""), what);
     expect(finish(b) == BOHM_CLOSED && gave(0, ""), what);
     expect(bohm_lines(b) == 0 && bohm_places(b) == 0, what);
     expect(bohm_set(b, BOHM_KEEP, 1) == BOHM_CLOSED, what);
     expect(explain(b, 0, sizeof out) == BOHM_CLOSED && gave(0, ""), what);
+    expect(rows(b, "", sizeof out) == BOHM_CLOSED && gave(0, ""), what);
     bohm_close(b);
     expect(!b->is_open, what);
 }
@@ -123,11 +131,33 @@ static void try_explanations(void) {
     try_kept(UINT64_MAX, 1000);
 }
 
+static void try_rows(void) {
+    bohm b = BOHM_CLOSED_HANDLE;
+    expect(bohm_open(&b) == BOHM_DONE, "open");
+    expect(rows(&b, "", sizeof out) == BOHM_DONE && gave(0, ""), "the rows of no line");
+    expect(rows(&b, "t", sizeof out) == BOHM_NO_TABLE && gave(0, ""), "a table of no line");
+    expect(step(&b, "a CREATE t 1\na CREATE u 2\na CREATE v", sizeof out) == BOHM_DONE && used == 36, "step");
+    expect(rows(&b, "t", sizeof out) == BOHM_DONE && gave(0, ""), "a table without rows");
+    expect(rows(&b, "v", sizeof out) == BOHM_NO_TABLE && gave(0, ""), "a table of a line that has begun");
+    expect(rows(&b, "a", sizeof out) == BOHM_NO_TABLE && rows(&b, "\xff", sizeof out) == BOHM_NO_TABLE && gave(0, ""), "what is no table");
+    expect(step(&b, " 1\na RUN u:3:I | CONST 0 5 | INSERT u 3 0 0\na RUN t:1:I | INSERT t 1 0\n", sizeof out) == BOHM_DONE, "step");
+    expect(rows(&b, "", sizeof out) == BOHM_DONE && gave(0, "t:1 0\nu:3 5 5\n"), "all rows");
+    expect(rows(&b, "u", sizeof out) == BOHM_DONE && gave(0, "u:3 5 5\n"), "the rows of a table");
+    size_t whole = made;
+    expect(rows(&b, "u", whole) == BOHM_DONE && made == whole, "as much room as is needed");
+    expect(rows(&b, "u", whole - 1) == BOHM_ROOM && made == whole && out[0] == '#', "too little room");
+    expect(rows(&b, "u", 0) == BOHM_ROOM && made == whole && out[0] == '#', "no room");
+    expect(step(&b, "a RUN u:3:D | DELETE u 3", sizeof out) == BOHM_DONE, "step");
+    expect(rows(&b, "u", sizeof out) == BOHM_DONE && gave(0, "u:3 5 5\n"), "the rows where a line has begun");
+    expect(finish(&b) == BOHM_DONE && rows(&b, "u", sizeof out) == BOHM_DONE && gave(0, ""), "the rows after the end");
+    bohm_close(&b);
+}
+
 static void try_texts(void) {
     uint8_t none[64], text[64];
     size_t length = bohm_status_text(77, none, sizeof none);
     expect(bohm_status_text(-1, text, sizeof text) == length && memcmp(text, none, length) == 0, "the text of no status");
-    for (int32_t status = BOHM_DONE; status <= BOHM_ROOM; status++) {
+    for (int32_t status = BOHM_DONE; status <= BOHM_WAITING; status++) {
         size_t whole = bohm_status_text(status, text, sizeof text);
         expect(whole > 3 && (whole != length || memcmp(text, none, length) != 0), "the text of a status");
         memset(none + 32, '#', 32);
@@ -150,12 +180,17 @@ static void report_again(void) {
             status = bohm_step(&b, input + at, count - at, room, sizeof room, &used, &made);
             fwrite(room, 1, made, stdout);
             expect(status == BOHM_DONE || status == BOHM_MEMORY, "step");
+            if (status == BOHM_DONE) continue;
+            status = bohm_rows(&b, input, 0, room, 0, &made);
+            expect(status == BOHM_DONE || status == BOHM_ROOM || status == BOHM_WAITING, "rows when out of memory");
         }
     do {
         status = bohm_finish(&b, room, sizeof room, &made);
         fwrite(room, 1, made, stdout);
         expect(status == BOHM_DONE || status == BOHM_MEMORY, "finish");
     } while (status == BOHM_MEMORY || made == sizeof room);
+    while ((status = bohm_rows(&b, input, 0, room, 0, &made)) == BOHM_MEMORY) expect(made == 0, "rows when out of memory");
+    expect(status == BOHM_DONE || (status == BOHM_ROOM && made > 0), "rows");
     bohm_close(&b);
 }
 
@@ -176,8 +211,28 @@ static void explain_all(void) {
     bohm_close(&b);
 }
 
-/* trial again: a log on standard input to its report; trial explain: to the explanations of its places. trial: the rest. */
+/* Writes the rows at the end of a log: of all tables, or of one. */
+static void list_rows(const char *table) {
+    static uint8_t input[1 << 16], room[1 << 16];
+    size_t count;
+    bohm b = BOHM_CLOSED_HANDLE;
+    expect(bohm_open(&b) == BOHM_DONE, "open");
+    while ((count = fread(input, 1, sizeof input, stdin)) > 0)
+        for (size_t at = 0; at < count; at += used)
+            expect(bohm_step(&b, input + at, count - at, room, sizeof room, &used, &made) == BOHM_DONE, "step");
+    expect(bohm_finish(&b, room, sizeof room, &made) == BOHM_DONE, "finish");
+    expect(bohm_rows(&b, (const uint8_t *)table, strlen(table), room, sizeof room, &made) == BOHM_DONE, "rows");
+    fwrite(room, 1, made, stdout);
+    bohm_close(&b);
+}
+
+/* trial again: a log on standard input to its report; trial explain: to the explanations of its places; trial rows [TABLE]: to the rows at
+ * its end. trial: the rest. */
 int main(int argc, char **argv) {
+    if (argc > 1 && strcmp(argv[1], "rows") == 0) {
+        list_rows(argc > 2 ? argv[2] : "");
+        return fflush(stdout) != 0 || wrong;
+    }
     if (argc > 1 && strcmp(argv[1], "explain") == 0) {
         explain_all();
         return fflush(stdout) != 0 || wrong;
@@ -188,6 +243,7 @@ int main(int argc, char **argv) {
     }
     try_misuse();
     try_explanations();
+    try_rows();
     try_texts();
     return wrong;
 }

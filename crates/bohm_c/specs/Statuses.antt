@@ -1,6 +1,7 @@
 -- The status of a call, and its English.
 use Rattle.std.specs.Prelude.{◌≡◌, ◌==◌, ◌⊎◌, ℤ, ℕ, Result, Ok, Err, List, codes, if◌then◌else◌, pos, negsuc}
 use Rattle.explain.specs.declared.fault.ExplainFault.{ExplainFault}
+use Rattle.fed_run.specs.declared.fault.AskFault.{AskFault}
 use Rattle.fed_run.specs.declared.fault.FeedFault.{FeedFault}
 
 abbrev pub status_number : Result (Unit {0}) FeedFault → ℤ
@@ -28,6 +29,16 @@ explain_status ExplainFault.Forgotten = pos 9
 abbrev pub IsExplainStatus : ℤ → Type 0
 IsExplainStatus status = (status ≡ pos 0) ⊎ (status ≡ pos 1) ⊎ (status ≡ pos 8) ⊎ (status ≡ pos 9) ⊎ (status ≡ pos 10)
 
+-- of why it isn't said what is there
+abbrev pub ask_status : AskFault → ℤ
+ask_status AskFault.NoMemory = pos 1
+ask_status AskFault.NoSuchTable = pos 11
+ask_status AskFault.Waiting = pos 12
+
+-- of one that says what is there: done, out of memory, too little room, no such table, or lines that wait
+abbrev pub IsAskStatus : ℤ → Type 0
+IsAskStatus status = (status ≡ pos 0) ⊎ (status ≡ pos 1) ⊎ (status ≡ pos 10) ⊎ (status ≡ pos 11) ⊎ (status ≡ pos 12)
+
 -- of one that isn't negative
 abbrev pub known_text : ℕ → List ℕ
 known_text status =
@@ -42,6 +53,8 @@ known_text status =
     if status == 8 then codes "no such place" else
     if status == 9 then codes "the statement is not kept" else
     if status == 10 then codes "too little room" else
+    if status == 11 then codes "no such table" else
+    if status == 12 then codes "lines wait to be run" else
     codes "no such status"
 
 abbrev pub status_text : ℤ → List ℕ

@@ -3,20 +3,23 @@
 //! A handle is a pointer and a flag that C keeps. Each call takes the run out of the handle, and gives it back.
 #![tactic(auto)]
 
-ghost use Rattle.std.specs.Prelude.{◌≡◌, ◌≤◌, ◌<◌, ◌+◌, ◌++◌, ◌↔◌, [], false, ℕ, List, None, Some, IfSome, IfNone, IsSome, MatchOption, drop, length, pos, take, true};
+ghost use Rattle.std.specs.Prelude.{◌≡◌, ◌≤◌, ◌<◌, ◌+◌, ◌++◌, ◌↔◌, [], false, ℕ, List, None, Some, IfErr, IfOk, IfSome, IfNone, IsSome, IsUtf8, MatchOption, OnOk, drop, length, option_map, pos, take, true};
 ghost use Rattle.report.specs.Report.{IsReport};
-ghost use Rattle.fed_run.specs.Stands.{IsFed, IsGivenOut, IsUnfed, KeepsLast, TextExplains, unsent};
-ghost use Rattle.bohm_c.specs.Statuses.{IsExplainStatus, IsSetStatus, IsStatus, explain_status, status_number, status_text};
+ghost use Rattle.audit_text.specs.RowsText.{HasNoTable};
+ghost use Rattle.fed_run.specs.Stands.{IsFed, IsGivenOut, IsUnfed, KeepsLast, TextExplains, TextLacksTable, TextListsRows, unsent};
+ghost use Rattle.bohm_c.specs.Asked.{asked_name};
+ghost use Rattle.bohm_c.specs.Statuses.{IsAskStatus, IsExplainStatus, IsSetStatus, IsStatus, ask_status, explain_status, status_number, status_text};
 
 mod handle;
 mod parts;
 
 use explain::ExplainFault;
-use fed_run::{FedRun, FeedFault};
+use fed_run::{AskFault, FedRun, FeedFault};
 pub use handle::Handle;
 use std::alloc::Global;
 use std::boxed::Box;
 use std::mem::replace;
+use std::str::Utf8Error;
 
 /// The call was done.
 const DONE: i32 = 0;
@@ -40,6 +43,10 @@ const NO_PLACE: i32 = 8;
 const FORGOTTEN: i32 = 9;
 /// There is too little room.
 const ROOM: i32 = 10;
+/// No reported statement creates the table.
+const NO_TABLE: i32 = 11;
+/// Lines wait to be run.
+const WAITING: i32 = 12;
 
 /// The option that says how many of the last places `bohm_explain` can explain.
 const KEEP: u32 = 1;
@@ -296,6 +303,93 @@ pub extern "C" fn bohm_explain(
     status
 }
 
+/// Why it isn't said what is there, as a status.
+fn ask_status(fault: AskFault) -> i32
+    ensures { result ≡ ask_status fault }
+{
+    match fault {
+        AskFault::NoMemory => MEMORY,
+        AskFault::NoSuchTable => NO_TABLE,
+        AskFault::Waiting => WAITING,
+    }
+}
+
+/// The name of the table that is asked for, if there are bytes of one.
+fn asked_name(table: &[u8]) -> Result<Option<&str>, Utf8Error>
+    ensures named { IfOk result (λ name. option_map (λ name. name.now) name ≡ asked_name table.now) }
+    ensures text { OnOk result (IsUtf8 table.now) }
+    ensures none { IfErr result (λ _. IsUtf8 table.now → ⊥) }
+{
+    if table.is_empty() {
+        return Ok(None);
+    }
+    let name = std::str::from_utf8(table)?;
+    Ok(Some(name))
+}
+
+/// Writes the rows that are there, as `bohm_rows`.
+fn write_rows(alloc: Global, run: &FedRun, table: &[u8], out: &mut [u8], made: &mut usize) -> i32
+    requires { made.old ≡ 0 }
+    ensures told { result ≡ DONE → TextListsRows run.now (asked_name table.now) (take made.new out.new) × (made.new ≤ length out.old) }
+    ensures room { result ≡ ROOM → (length out.old < made.new)
+        × ((text : List ℕ) × (TextListsRows run.now (asked_name table.now) text × (length text ≡ made.new))) }
+    ensures none { IsUtf8 table.now → (result ≡ NO_TABLE) ↔ ((run.now.run.waiting.items ≡ [])
+        × HasNoTable run.now.run.engine.log.names.tables (asked_name table.now)) }
+    ensures lacks { result ≡ NO_TABLE → IsUtf8 table.now → TextLacksTable run.now (asked_name table.now) }
+    ensures foreign { (IsUtf8 table.now → ⊥) → result ≡ NO_TABLE }
+    ensures waiting { IsUtf8 table.now → (result ≡ WAITING) ↔ (0 < length run.now.run.waiting.items) }
+    ensures status { IsAskStatus result }
+    ensures still { (result ≡ DONE → ⊥) → out.new ≡ out.old }
+    ensures made { (result ≡ DONE → ⊥) → (result ≡ ROOM → ⊥) → made.new ≡ 0 }
+{
+    let Ok(name) = asked_name(table) else {
+        return NO_TABLE;
+    };
+    let mut rows = Vec::new(alloc);
+    match run.rows(alloc, name, &mut rows) {
+        Ok(()) => write_whole(&rows, out, made),
+        Err(fault) => ask_status(fault),
+    }
+}
+
+/// Writes to `out` the rows that are there after the reported places, of the table of a name, or of all where the name has no bytes, as
+/// `FedRun::rows`.
+#[unsafe(no_mangle)]
+pub extern "C" fn bohm_rows(
+    alloc: Global,
+    handle: &mut Handle,
+    table: &[u8],
+    out: &mut [u8],
+    made: &mut usize,
+) -> i32
+    // They are the rows of each text that begins with what was taken.
+    ensures told { result ≡ DONE → IfSome handle.old.run (λ run. TextListsRows run (asked_name table.now) (take made.new out.new)
+        × (made.new ≤ length out.old)) }
+    // Where there is too little room, it is given how much is needed.
+    ensures room { result ≡ ROOM → IfSome handle.old.run (λ run. (length out.old < made.new)
+        × ((text : List ℕ) × (TextListsRows run (asked_name table.now) text × (length text ≡ made.new)))) }
+    // There is no table exactly where no reported statement creates one of the name.
+    ensures none { IfSome handle.old.run (λ run. IsUtf8 table.now → (result ≡ NO_TABLE) ↔ ((run.run.waiting.items ≡ [])
+        × HasNoTable run.run.engine.log.names.tables (asked_name table.now))) }
+    ensures lacks { result ≡ NO_TABLE → IfSome handle.old.run (λ run. IsUtf8 table.now → TextLacksTable run (asked_name table.now)) }
+    // A name that isn't UTF-8 is that of no table.
+    ensures foreign { IfSome handle.old.run (λ _. (IsUtf8 table.now → ⊥) → result ≡ NO_TABLE) }
+    ensures waiting { IfSome handle.old.run (λ run. IsUtf8 table.now → (result ≡ WAITING) ↔ (0 < length run.run.waiting.items)) }
+    ensures status { IfSome handle.old.run (λ _. IsAskStatus result) }
+    ensures same { handle.new.run ≡ handle.old.run }
+    ensures still { (result ≡ DONE → ⊥) → out.new ≡ out.old }
+    ensures made { (result ≡ DONE → ⊥) → (result ≡ ROOM → ⊥) → made.new ≡ 0 }
+    ensures closed { handle.old.run ≡ None → result ≡ CLOSED }
+{
+    *made = 0;
+    let Some(run) = take(alloc, handle) else {
+        return CLOSED;
+    };
+    let status = write_rows(alloc, &run, table, out, made);
+    put(handle, run);
+    status
+}
+
 /// How many lines were reported, with a heading, which has no line of the report. 0 where the handle is closed.
 #[unsafe(no_mangle)]
 pub extern "C" fn bohm_lines(alloc: Global, handle: &mut Handle) -> u64
@@ -342,6 +436,8 @@ fn text_of(status: i32) -> &'static str
         NO_PLACE => "no such place",
         FORGOTTEN => "the statement is not kept",
         ROOM => "too little room",
+        NO_TABLE => "no such table",
+        WAITING => "lines wait to be run",
         _ => "no such status",
     }
 }
