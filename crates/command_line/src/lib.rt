@@ -9,6 +9,7 @@
 mod arguments;
 mod command_words;
 mod options;
+mod places;
 mod privileges;
 mod running;
 mod sources;
