@@ -43,7 +43,7 @@ version-kept (line ∷ lines) first earlier later are =
     (subst (λ (v : Version). AreParsedFrom false v lines (earlier ++ later)) (sym (version-with no_names first)) are.1) in
     version-later behind.0 later (names_after no_names (first ∷ earlier)) behind.1
 
-pub version-same : (lines : List (List ℕ)) (earlier later : List ParsedLine) (log : Accepted) (place : ℕ) → AreParsedLines lines (earlier ++ later)
+version-same : (lines : List (List ℕ)) (earlier later : List ParsedLine) (log : Accepted) (place : ℕ) → AreParsedLines lines (earlier ++ later)
     → log.names ≡ names_after no_names earlier → log.statements ≡ log_of no_names earlier → place < length log.statements
     → (names_after log.names later).version ≡ log.names.version
 version-same lines [] later log place are names statements low = absurd (omega (arith, low, ap length statements))

@@ -8,5 +8,3 @@ pub mod Lines
 pub mod SpelledRecords
 pub mod Failing
 pub mod RowsRead
-pub mod Several
-pub mod RunSofar

@@ -1,5 +1,4 @@
 pub mod Answer
-pub mod Places
 pub mod Faults
 pub mod Picture
 pub mod Texts

@@ -4,6 +4,5 @@ pub mod Sweeping
 pub mod ReadBytes
 pub mod Batching
 pub mod Reaching
-pub mod Quiet
 pub mod Faults
 pub mod Foretold

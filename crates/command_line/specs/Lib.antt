@@ -1,5 +1,4 @@
 pub mod Options
-pub mod Places
 pub mod Privileges
 pub mod Running
 pub mod Shapes

@@ -1,7 +1,7 @@
 -- The program's words, as they are described to `clap`: its subcommands, their arguments and options.
 use Rattle.std.specs.Prelude.{List, Some, codes, map, true}
 use Rattle.clap.specs.Words.{App, Rule, Text, new_app, new_rule, with_rule, with_subcommand}
-use Rattle.clap.specs.declared.builder.action.ArgAction.TheVariants.{Append, SetTrue}
+use Rattle.clap.specs.declared.builder.action.ArgAction.TheVariants.{SetTrue}
 use Rattle.clap.specs.declared.builder.value_parser.ValueParser.TheVariants as vp
 use denote.Ref.{Bor}
 use Rattle.command_line.specs.Options.{with_options}
@@ -35,15 +35,11 @@ run_app = with_options (with_rule (new_app (codes "run")) (new_rule (codes "FILE
 abbrev pub over_file : Text → App
 over_file name = with_rule (new_app name) (required_rule (codes "FILE"))
 
--- a word PLACE that may be there several times
-abbrev pub places_rule : Rule
-places_rule = record (place_rule (new_rule (codes "PLACE"))) { action = Some Append }
-
--- `explain` has to have FILE, may have PLACE once or more, and two flags of its own
+-- `explain` has to have FILE and PLACE, and may have a flag of its own
 abbrev pub explain_app : App
 explain_app =
-    let explain = with_rule (over_file (codes "explain")) places_rule in
-    with_rule (with_rule explain (flag_rule (codes "check"))) (flag_rule (codes "denied"))
+    let explain = with_rule (over_file (codes "explain")) (place_rule (required_rule (codes "PLACE"))) in
+    with_rule explain (flag_rule (codes "check"))
 
 -- `grants` has to have FILE, and may have PLACE
 abbrev pub grants_app : App

@@ -2,8 +2,8 @@
 use Rattle.std.specs.Prelude.{◌≡◌, ◌≢◌, ◌≤◌, ℕ, Err, List, None, Result, Some, true}
 use Rattle.line_io.specs.declared.fault.EngineFault.{EngineFault}
 use Rattle.report.specs.Report.{IsReport}
+use Rattle.audit_text.specs.Answer.{HasNoPlace, IsExplanation}
 use Rattle.audit_text.specs.Picture.{EndsBefore, IsPicture}
-use Rattle.audit_text.specs.Places.{AreDenials, AreExplanations, LacksPlaceOf}
 use Rattle.audit_text.specs.RowsBefore.{IsRows, LacksTable}
 use Rattle.audit_text.specs.declared.fault.WorkFault.{WorkFault}
 use Rattle.batched_text.specs.Settings.{are_within_limits}
@@ -17,8 +17,7 @@ abbrev pub TaskIsWithin : Task → Type 0
 TaskIsWithin (Task.InOrder threads) = threads ≤ MOST_AHEAD
 TaskIsWithin (Task.InBatches settings arrival) = are_within_limits settings ≡ true
 TaskIsWithin Task.Slow = Unit {0}
-TaskIsWithin (Task.Explain which) = Unit {0}
-TaskIsWithin (Task.Denials checked) = Unit {0}
+TaskIsWithin (Task.Explain question) = Unit {0}
 TaskIsWithin (Task.Picture limit) = Unit {0}
 TaskIsWithin (Task.List which) = Unit {0}
 TaskIsWithin (Task.Holders which) = Unit {0}
@@ -29,8 +28,7 @@ abbrev pub AnswersTask : Task → List ℕ → List ℕ → Type 0
 AnswersTask (Task.InOrder threads) input text = IsReport input text
 AnswersTask (Task.InBatches settings arrival) input text = IsReport input text
 AnswersTask Task.Slow input text = IsReport input text
-AnswersTask (Task.Explain which) input text = AreExplanations input which.places.now which.is_checked text
-AnswersTask (Task.Denials checked) input text = AreDenials input checked text
+AnswersTask (Task.Explain question) input text = IsExplanation input question text
 AnswersTask (Task.Picture limit) input text = IsPicture input (place_named limit) text
 AnswersTask (Task.List which) input text = IsRows input (rows_named which).0 (place_named which.limit) text
 AnswersTask (Task.Holders which) input text = IsHolders input which.kind which.table.now which.limit text
@@ -59,8 +57,7 @@ abbrev pub TaskLacks : Task → WorkFault → List ℕ → Type 0
 TaskLacks (Task.InOrder threads) fault input = SaysLack NoneNamed ⊥ ⊥ fault
 TaskLacks (Task.InBatches settings arrival) fault input = SaysLack NoneNamed ⊥ ⊥ fault
 TaskLacks Task.Slow fault input = SaysLack NoneNamed ⊥ ⊥ fault
-TaskLacks (Task.Explain which) fault input = SaysLack (LacksPlaceOf input which.places.now) ⊥ ⊥ fault
-TaskLacks (Task.Denials checked) fault input = SaysLack NoneNamed ⊥ ⊥ fault
+TaskLacks (Task.Explain question) fault input = SaysLack (HasNoPlace input question.place) ⊥ ⊥ fault
 TaskLacks (Task.Picture limit) fault input = SaysLack (EndsBefore input (place_named limit)) ⊥ ⊥ fault
 TaskLacks (Task.List which) fault input =
     SaysLack (EndsBefore input (place_named which.limit)) (LacksTable input (rows_named which).0 (place_named which.limit)) ⊥ fault
@@ -95,8 +92,7 @@ abbrev pub MayAnswer : Task → Result (Unit {0}) WorkFault → Type 0
 MayAnswer (Task.InOrder threads) ended = LacksNothing ended × StartsAll ended
 MayAnswer (Task.InBatches settings arrival) ended = LacksNothing ended × (settings.workers ≤ 1 → StartsAll ended)
 MayAnswer Task.Slow ended = LacksNothing ended × StartsAll ended
-MayAnswer (Task.Explain which) ended = LacksNoTable ended × LacksNoUser ended × StartsAll ended
-MayAnswer (Task.Denials checked) ended = LacksNothing ended × StartsAll ended
+MayAnswer (Task.Explain question) ended = LacksNoTable ended × LacksNoUser ended × StartsAll ended
 MayAnswer (Task.Picture limit) ended = LacksNoTable ended × LacksNoUser ended × StartsAll ended
 MayAnswer (Task.List which) ended = LacksNoUser ended × StartsAll ended
 MayAnswer (Task.Holders which) ended = LacksNoUser ended × StartsAll ended

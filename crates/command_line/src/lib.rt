@@ -9,7 +9,6 @@
 mod arguments;
 mod command_words;
 mod options;
-mod places;
 mod privileges;
 mod running;
 mod sources;

@@ -2,7 +2,7 @@
 
 ghost use Rattle.std.specs.Prelude.{◌≡◌, IfOk, codes, true};
 ghost use Rattle.clap.specs.Words.{app_of, new_rule, with_rule, with_subcommand};
-ghost use Rattle.command_line.specs.Shapes.{bohm_app, explain_app, flag_rule, grants_app, history_app, holders_app, limit_rule, over_file, place_rule, places_rule, required_rule, rows_app, run_app, with_privileges, with_progress, with_questions, with_runs};
+ghost use Rattle.command_line.specs.Shapes.{bohm_app, explain_app, flag_rule, grants_app, history_app, holders_app, limit_rule, over_file, place_rule, required_rule, rows_app, run_app, with_privileges, with_progress, with_questions, with_runs};
 
 use crate::options::{MOST_PLACE, with_options};
 use clap::builder::ValueParser;
@@ -67,14 +67,14 @@ fn over_file<'a>(alloc: Global, name: &'a str, about: &'a str) -> Result<Command
     Command::new(alloc, name).about(about).arg(file)
 }
 
-/// Adds the word PLACE, which may be there several times, to a command's description.
-fn with_places<'a>(alloc: Global, command: Command<'a>) -> Result<Command<'a>, AllocError>
-    ensures { IfOk result (λ c. app_of c ≡ with_rule (app_of command.entry) places_rule) }
+/// Adds the word PLACE, which has to be there, to a command's description.
+fn with_place<'a>(alloc: Global, command: Command<'a>) -> Result<Command<'a>, AllocError>
+    ensures { IfOk result (λ c. app_of c ≡ with_rule (app_of command.entry) (place_rule (required_rule (codes "PLACE")))) }
 {
     let place = Arg::new(alloc, "PLACE")
-        .action(ArgAction::Append)
+        .required(true)
         .value_parser(ValueParser::unsigned(0, MOST_PLACE))
-        .help("A place of the log to explain. One or more, but none beside --denied");
+        .help("The place of the log to explain");
     command.arg(place)
 }
 
@@ -88,22 +88,15 @@ fn with_limit<'a>(alloc: Global, command: Command<'a>) -> Result<Command<'a>, Al
     command.arg(place)
 }
 
-/// Adds the flags `--check` and `--denied` to a command's description.
-fn with_explaining<'a>(alloc: Global, command: Command<'a>) -> Result<Command<'a>, AllocError>
-    ensures { IfOk result (λ c. app_of c
-        ≡ with_rule (with_rule (app_of command.entry) (flag_rule (codes "check"))) (flag_rule (codes "denied"))) }
+/// Adds the flag `--check` to a command's description.
+fn with_check<'a>(alloc: Global, command: Command<'a>) -> Result<Command<'a>, AllocError>
+    ensures { IfOk result (λ c. app_of c ≡ with_rule (app_of command.entry) (flag_rule (codes "check"))) }
 {
-    let command = with_flag(
-        alloc,
-        command,
-        "check",
-        "Checks each explanation, and prints a line 'checked' where it is sound",
-    )?;
     with_flag(
         alloc,
         command,
-        "denied",
-        "Explains each denied place of the log, in place of those that are named",
+        "check",
+        "Checks the explanation, and prints a line 'checked' where it is sound",
     )
 }
 
@@ -114,10 +107,10 @@ fn describe_explain<'a>(alloc: Global) -> Result<Command<'a>, AllocError>
     let explain = over_file(
         alloc,
         "explain",
-        "Explains why the statements of places were admitted or denied",
+        "Explains why the statement of a place was admitted or denied",
     )?;
-    let explain = with_places(alloc, explain)?;
-    with_explaining(alloc, explain)
+    let explain = with_place(alloc, explain)?;
+    with_check(alloc, explain)
 }
 
 /// The description of `grants`, but for the flags for progress.

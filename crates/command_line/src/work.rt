@@ -10,7 +10,7 @@ ghost use Rattle.command_line.specs.declared.work.Task.{Task};
 ghost use Rattle.command_line.specs.Tasks.{AnswersTask, IsLack, MayAnswer, TaskIsWithin, TaskLacks};
 
 use crate::options::{Limit, RowsAsked};
-use audit_text::{PlacesAsked, WorkFault, explain_denied, explain_places, grants_text, rows_text};
+use audit_text::{Question, WorkFault, explain_text, grants_text, rows_text};
 use batched_text::{
     Arrival, Batches, ReadingAhead, Settings, report_alone, report_in_order, report_text,
 };
@@ -32,10 +32,8 @@ pub enum Task<'a> {
     InBatches(Settings, Arrival),
     /// Run it by the slow run, which follows the definitions one by one.
     Slow,
-    /// Explain why the statements of these places were admitted or denied.
-    Explain(PlacesAsked<'a>),
-    /// Explain so each denied place, and check that where it is asked for.
-    Denials(bool),
+    /// Answer a question about a place.
+    Explain(Question),
     /// Picture the grants in force before a place, or at the end.
     Picture(Limit),
     /// List the rows that are there before a place, or at the end.
@@ -115,8 +113,7 @@ impl Job for SeededJob {
                 Ok(()) => Ok(()),
                 Err(fault) => Err(WorkFault::Run(fault)),
             },
-            Task::Explain(which) => explain_places(alloc, log, told, &which, self.seed),
-            Task::Denials(is_checked) => explain_denied(alloc, log, told, is_checked, self.seed),
+            Task::Explain(question) => explain_text(alloc, log, told, question, self.seed),
             Task::Picture(limit) => grants_text(alloc, log, told, limit.place(), self.seed),
             Task::List(asked) => rows_text(
                 alloc,

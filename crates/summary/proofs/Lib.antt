@@ -1,6 +1,0 @@
-pub mod CountLemmas
-pub mod CutLemmas
-pub mod Pieces
-pub mod TextLemmas
-pub mod Reported
-pub mod Summed
