@@ -6,11 +6,11 @@ ghost use Rattle.clap.specs.Words.{fault_of, found_of, kind_of, rows_of, subcomm
 ghost use Rattle.command_line.specs.Shapes.{bohm_app, texts_of};
 ghost use Rattle.command_line.specs.Words.{Asks, IsMisuse, IsWithinLimits, TellsError, TellsOneOf, asked, asked_by, asked_in, message_of, path_named, path_of, progress_in, status_of, stream_of, verb_named};
 
+use crate::asking::{history_asked, holders_asked};
 use crate::options::{
     Choice, Limit, MOST_PLACE, Progress, RowsAsked, limit_of, progress_of, question_of, rows_asked,
     way_of,
 };
-use crate::privileges::{history_asked, holders_asked};
 use crate::subcommands::program;
 use audit_text::{Question, WorkFault};
 use batched_text::Settings;

@@ -7,9 +7,9 @@
 #![tactic(auto)]
 
 mod arguments;
+mod asking;
 mod command_words;
 mod options;
-mod privileges;
 mod running;
 mod sources;
 mod subcommands;
