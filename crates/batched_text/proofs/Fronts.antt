@@ -119,6 +119,12 @@ ended-known first (Some input) (Some rest) place log so end = front-ended first 
 pub front_ended : (i : Option (List ℕ)) (place : ℕ) (log : Accepted) → EndsTaking i place log → IsLogUpTo i (Some place) log
 front_ended i place log ends = ended-known ends.0 i ends.1 place log ends.2.0 ends.2.1
 
+-- where a run has ended
+pub ended_taking : (b : Bool) (i rest : Option (List ℕ)) (place : ℕ) (log : Accepted) → b ≡ false
+    → MatchBool b (HasTaken false i rest place log) (EndsTaking i place log) → EndsTaking i place log
+ended_taking true i rest place log is so = absurd (cc)
+ended_taking false i rest place log is so = so
+
 -- where no place is named, one that no log has is
 all-lines : (input : List ℕ) (place : ℕ) (log : Accepted) → length log.statements ≤ place → IsLogOfFront input (Some place) log → IsLogOfFront input None log
 all-lines input place log few so =

@@ -4,5 +4,6 @@ pub mod Sweeping
 pub mod ReadBytes
 pub mod Batching
 pub mod Reaching
+pub mod Quiet
 pub mod Faults
 pub mod Foretold

@@ -35,8 +35,7 @@ impl Room<'_> {
     }
 }
 
-/// Takes the line that begins at an index of the bytes, and returns how many of them it takes. None where no line is whole there, and
-/// then nothing has changed.
+/// Takes the line that begins at an index of the bytes, and returns how many of them it takes. None where no line is whole there.
 fn take_next<'a>(
     run: &mut LineRun,
     bytes: &'a [u8],
@@ -80,7 +79,7 @@ fn take_ahead<'a>(
 }
 
 /// Deals with a line that was read ahead and begins at an index of the bytes: it waits for the end of its batch, or its batch is reported.
-/// It returns the index before which all is dealt with then.
+/// Returns the index before which all is dealt with then.
 fn report_taken<'a, E: Executor>(
     runner: &Runner<E>,
     run: &mut LineRun,
@@ -101,8 +100,8 @@ fn report_taken<'a, E: Executor>(
     Ok(ahead.from + count)
 }
 
-/// Deals with a line of which a statement was found before its turn, and which begins at an index of the bytes: the lines that wait are
-/// reported, and the statement is run from where it stays and reported. It returns the index before which all is dealt with then.
+/// Deals with a line of which a statement was found before its turn: reports the lines that wait, then runs the statement from where it
+/// stays and reports it. Returns the index before which all is dealt with then.
 fn report_known<E: Executor>(
     runner: &Runner<E>,
     run: &mut LineRun,
@@ -126,8 +125,8 @@ fn report_known<E: Executor>(
     Ok(ahead.from + ahead.count)
 }
 
-/// Deals with a line that was read ahead if the lines before an index end where it begins: as `report_known` where a statement was found that
-/// may be run as a batch of its own and for which a place is left, and else as `report_taken`.
+/// Deals with a line that was read ahead, if the lines before an index end where it begins: as `report_known` where its statement may be a
+/// batch of its own and a place is left, else as `report_taken`.
 fn report_one<'a, E: Executor>(
     runner: &Runner<E>,
     run: &mut LineRun,
@@ -154,8 +153,8 @@ fn report_one<'a, E: Executor>(
     }
 }
 
-/// Deals with the lines that begin from one index of the bytes on and before another: each waits for the end of its batch, or its batch is
-/// reported. It returns the index before which all is dealt with then, which is before the other one where a line isn't whole.
+/// Deals with the lines that begin from one index of the bytes on and before another. Returns the index before which all is dealt with
+/// then, which is before the other one where a line isn't whole.
 pub(crate) fn report_until<'a, E: Executor>(
     runner: &Runner<E>,
     run: &mut LineRun,
@@ -181,8 +180,8 @@ pub(crate) fn report_until<'a, E: Executor>(
     Ok(at)
 }
 
-/// Deals with lines from an index of the bytes on, up to the last that was read ahead. Of those read ahead it passes over each that doesn't
-/// begin where the lines before it end; all others are read now. It returns the index before which all is dealt with then.
+/// Deals with lines from an index of the bytes on, up to the last that was read ahead; one that doesn't begin where those before it end is
+/// passed over. Returns the index before which all is dealt with.
 pub(crate) fn report_foretold<'a, E: Executor>(
     runner: &Runner<E>,
     run: &mut LineRun,

@@ -9,8 +9,7 @@ ghost use Rattle.sequencer.specs.Whole.{IsWhole};
 ghost use Rattle.bohm_base.specs.Collecting.{places_in, report_text};
 ghost use Rattle.bohm_base.specs.declared.collecting.LineOutcome.{LineOutcome};
 
-/// The report's lines for lines whose places a log has are the same when more statements and more names come after it, in the same version;
-/// and the lines of a report in two parts are those of the one and then those of the other.
+/// What the report says of lines after more was appended to the log, and of lines in two parts.
 pub fn reports_stand()
     ensures longer { (log : Accepted) (more : List Statement) (later : Names) (number place : ℕ) (lines : List LineOutcome)
         → IsWhole log → Begins log.names later → later.version ≡ log.names.version → place + places_in lines ≤ length log.statements

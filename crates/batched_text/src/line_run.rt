@@ -50,7 +50,7 @@ pub(crate) fn trim_to(engine: &mut Engine, mark: Place)
     engine.sweep();
 }
 
-/// Runs the places that wait as a batch, if there are some, and trims the rows after it. After an error the engine is as it was.
+/// Runs the places that wait as a batch, if there are some, and trims the rows after it.
 pub(crate) fn run_batch<E: Executor>(
     runner: &Runner<E>,
     engine: &mut Engine,
@@ -142,7 +142,7 @@ impl LineRun {
         self.engine.log().len() - self.reported
     }
 
-    /// Appends the report's lines for the waiting lines to what is pending. After an error what was pending is.
+    /// Appends the report's lines for the waiting lines to what is pending.
     fn put_waiting(&mut self, alloc: Global) -> Result<(), AllocError>
         requires kept { self.old.engine.dropped ≤ self.old.reported }
         requires places { self.old.reported + places_in self.old.waiting.items ≤ finished self.old.engine }
@@ -168,8 +168,8 @@ impl LineRun {
         Ok(())
     }
 
-    /// Runs the places that wait as a batch, as `run_batch`, and appends the report's lines for the waiting lines to what is pending. Then it
-    /// forgets what is finished, but for what is kept. After an error the lines wait still.
+    /// Runs the places that wait as a batch, as `run_batch`, and appends the report's lines for the waiting lines to what is pending. Then
+    /// it forgets what is finished, but for what is kept.
     pub fn report<E: Executor>(&mut self, runner: &Runner<E>) -> Result<(), EngineFault>
         requires may_run { E.may_run runner.now.executor.now runner.now.plan.settings.workers }
         requires steady { IsSteady runner.now.plan self.old }
@@ -232,8 +232,8 @@ impl LineRun {
         self.unreported() < batch && (self.waiting.len() as u64) < batch
     }
 
-    /// Runs a statement that was foretold as a batch of its own, from where it stays, and appends the report's line for it to what is pending.
-    /// No line waits. After an error what was pending is.
+    /// Runs a statement that was foretold as a batch of its own, from where it stays, and appends the report's line for it to what is
+    /// pending.
     pub(crate) fn report_single<E: Executor>(
         &mut self,
         runner: &Runner<E>,

@@ -20,7 +20,7 @@ impl LineRun {
         self.lines == 0 && self.waiting.is_empty()
     }
 
-    /// Takes a line, as `take_text`, the first one as such. Then the line waits. On `Err`, out of memory; no line was taken.
+    /// Takes a line, as `take_text`, the first one as such. Then the line waits.
     pub fn take<'a>(&mut self, line: &'a [u8], raw: &mut LineBuffers<'a>) -> Result<(), EngineFault>
         ensures ok { OnOk result ((reading : ParsedLine)
             × (ReadsAs (next_line self.old == 1) (log_names self.old).version line.now reading
@@ -59,7 +59,7 @@ impl LineRun {
         Ok(())
     }
 
-    /// Takes a line, as `take`, and reports the waiting lines if their batch is full. On `Err` what was pending is.
+    /// Takes a line, as `take`, and reports the waiting lines if their batch is full.
     pub(crate) fn deal<'a, E: Executor>(
         &mut self,
         runner: &Runner<E>,

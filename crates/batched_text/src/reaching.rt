@@ -14,6 +14,7 @@ ghost use Rattle.batched_text.specs.Reaching.{EndsTaking, HasTaken, IsLogUpTo};
 ghost use Rattle.batched_text.specs.Sweeping.{IsSwept};
 
 use crate::line_run::run_batch;
+use crate::quiet::QuietRun;
 use crate::runner::{Alone, Runner};
 use crate::settings::QUIET_BATCH;
 use bohm_base::take_text;
@@ -40,8 +41,8 @@ fn take_quietly(
     Ok(())
 }
 
-/// Takes the first line of a log. False where the input has none, and then nothing is taken.
-fn take_first<R: Read>(
+/// Takes the first line of a log. False where the input has none.
+pub(crate) fn take_first<R: Read>(
     alloc: Global,
     reader: &mut Counted<R>,
     lines: &mut LineReader,
@@ -70,7 +71,7 @@ fn take_first<R: Read>(
     Ok(true)
 }
 
-/// Takes lines after the first into the log until it has a place. False where the input ended before. None of them is run.
+/// Takes lines after the first into the log until it has a place. False where the input ended before.
 fn take_until<R: Read>(
     alloc: Global,
     reader: &mut Counted<R>,
@@ -107,7 +108,7 @@ fn take_until<R: Read>(
 
 /// Takes lines after the first until the log has a place, but no more than a batch of them, and runs the places that wait. False once the
 /// log has the place, or has all lines of the input.
-fn run_some<R: Read>(
+pub(crate) fn run_some<R: Read>(
     alloc: Global,
     reader: &mut Counted<R>,
     lines: &mut LineReader,
@@ -142,37 +143,6 @@ fn run_some<R: Read>(
     Ok(more & goes_on)
 }
 
-/// Takes lines until the log has a place, and runs them batch by batch. Each batch but the last one is forgotten.
-fn run_until<R: Read>(
-    alloc: Global,
-    reader: &mut Counted<R>,
-    engine: &mut Engine,
-    place: Place,
-) -> Result<(), EngineFault>
-    requires first { engine.old.log ≡ empty_log }
-    requires none { engine.old.dropped ≡ 0 }
-    requires unrun { finished engine.old ≡ 0 }
-    requires mark { engine.old.store.mark ≡ 0 }
-    ensures taken { OnOk result (EndsTaking (R.remaining reader.old.inner) place engine.new.log) }
-    ensures all { OnOk result (finished engine.new ≡ length engine.new.log.statements) }
-    ensures kept { OnOk result (engine.new.dropped ≤ place) }
-    ensures mark { OnOk result (engine.new.store.mark ≡ finished engine.new) }
-    ensures swept { OnOk result (IsSwept engine.new.store) }
-    ensures few { OnOk result (finished engine.new ≤ engine.new.dropped + QUIET_BATCH) }
-    ensures fault { IfErr result IsOfReading }
-    ensures read { result ≡ Err EngineFault.Read → reader.new.errors ≡ raised reader.old.errors }
-    ensures other { (result ≡ Err EngineFault.Read → ⊥) → reader.new.errors ≡ reader.old.errors }
-{
-    let mut lines = LineReader::new(alloc)?;
-    if !take_first(alloc, reader, &mut lines, engine)? {
-        return Ok(());
-    }
-    'batches: while run_some(alloc, reader, &mut lines, engine, place)? {
-        engine.forget();
-    }
-    Ok(())
-}
-
 /// Reads a log up to the line of a place, or to its end, and runs it in order in batches of 1,024 places, without a report. It starts no
 /// thread. No line after the place's is taken.
 pub fn run_quietly_to<R: Read>(
@@ -196,10 +166,9 @@ pub fn run_quietly_to<R: Read>(
     ensures read { result ≡ Err EngineFault.Read → reader.new.errors ≡ raised reader.old.errors }
     ensures other { (result ≡ Err EngineFault.Read → ⊥) → reader.new.errors ≡ reader.old.errors }
 {
-    let mut engine = Engine::seeded(alloc, seed);
-    let place = limit.unwrap_or(MOST_PLACES);
-    run_until(alloc, reader, &mut engine, place)?;
+    let mut run = QuietRun::begin(alloc, reader, limit, seed)?;
+    'batches: while run.next(alloc, reader)? {}
+    let engine = run.into_engine();
     let _len = engine.log().len();
-    let _dropped = engine.log().dropped();
     Ok(engine)
 }

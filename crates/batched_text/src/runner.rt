@@ -24,7 +24,7 @@ use workers::NoGate;
 pub trait Executor {
     ghost may_run: { Self → ℕ → Type 0 };
 
-    /// Runs the next places, up to this one. After an error the engine is as it was.
+    /// Runs the next places, up to this one.
     fn run_to(&self, alloc: Global, engine: &mut Engine, end: Place) -> Result<(), EngineFault>
         requires may_run { (workers : ℕ) × may_run self.now workers }
         requires order { finished engine.old ≤ end }

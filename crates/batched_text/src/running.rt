@@ -32,8 +32,8 @@ use std::io::{Read, Write};
 use std::sync::Wait;
 use std::thread::Threads;
 
-/// Takes the next line, and reports its batch if that is full. False at the end of the input. It is called only while nothing of the
-/// report is pending and, where batches end before reads, while no line waits: so each line is answered before the reader is asked for more.
+/// Takes the next line, and reports its batch if that is full. False at the end of the input. Where batches end before reads, a line is
+/// reported before the reader is asked for more.
 #[tactic(auto, using(crate::proofs::Faults::run_stops, crate::proofs::Faults::run_told))]
 fn report_line<E: Executor, R: Read>(
     runner: &Runner<E>,
@@ -61,9 +61,8 @@ fn report_line<E: Executor, R: Read>(
     Ok(true)
 }
 
-/// Takes the lines of the input, and runs and reports all of it, the end of the report still pending. In each turn it takes a line, as
-/// `report_line`, and then whole buffered lines, as `deal_at_hand`. Then it reports the lines that wait, unless batches are full, and writes
-/// what is pending.
+/// Takes, runs and reports all lines of the input, and leaves the end of the report pending. Each turn takes a line, as `report_line`, and
+/// then whole buffered lines, as `deal_at_hand`.
 #[tactic(auto, using(crate::proofs::Faults::run_stops, crate::proofs::Faults::run_told))]
 fn report_all<E: Executor, D: Dealer<E>, R: Read, W: Write>(
     runner: &Runner<E>,
@@ -119,8 +118,7 @@ fn end_report<W: Write>(writer: &mut Counted<W>) -> Result<(), EngineFault>
     Ok(())
 }
 
-/// Reads a log to its end, runs it in batches, and writes its report, at a fault as much of it as was made; then the writer is
-/// flushed. No line was dealt with before.
+/// Reads a log to its end, runs it in batches, and writes its report, at a fault as much of it as was made; then the writer is flushed.
 #[tactic(auto, using(crate::proofs::Faults::run_stops, crate::proofs::Faults::run_told))]
 fn run_batches<E: Executor, D: Dealer<E>, R: Read, W: Write>(
     runner: &Runner<E>,

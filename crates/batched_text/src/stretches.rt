@@ -37,8 +37,8 @@ struct StretchAhead<'a, B: Basis> {
     ghost of_bytes: { buffered.bytes.now ≡ B.bytes },
 }
 
-/// Deals with the lines up to the end of a piece, by what was found of them if it was read by now. It returns the index before which all
-/// is dealt with then.
+/// Deals with the lines up to the end of a piece, by what was found of them if it was read by now. Returns the index before which all is
+/// dealt with then.
 fn report_piece<'a, B: Basis>(
     runner: &Runner<Alone>,
     run: &mut LineRun,
@@ -165,8 +165,8 @@ fn run_beside<B: Basis + Send + Sync, T: Threads + Wait + Sync>(
     ran
 }
 
-/// Deals with the lines of the front of the bytes, as `run_beside`, with lines read before their turn by these names. It fills the spare
-/// pieces, and gives back those that may be filled again. Where memory for the pieces is refused nothing is dealt with.
+/// Deals with the lines at the front of the bytes, as `run_beside`, read before their turn by these names in the spare pieces. Returns the
+/// pieces that may be filled again. Out of memory for them, nothing is dealt with.
 pub(crate) fn run_ahead<B: Basis + Send + Sync, T: Threads + Wait + Sync>(
     rt: &T,
     runner: &Runner<Alone>,
