@@ -1,11 +1,18 @@
-"""What `bohm holders` and `bohm history` have to say of a log, worked out from its report by the definitions: the grants in force before a
-place are those that stay when the deeds before it are made again without the revoked grants.
+"""What `bohm holders`, `bohm history` and `bohm summary` have to say of a log, worked out from its report by the definitions: the grants in
+force before a place are those that stay when the deeds before it are made again without the revoked grants, and a line of a report is counted
+by its word.
 
 It is slow, shares nothing with the program but the log and the report of the slow run, and knows only logs whose lines it draws.
 """
 import collections
 
 KINDS = ["READ", "INSERT", "UPDATE", "DELETE"]
+# the words of a summary, in its order
+OUTCOMES = "created done granted revoked denied aborted undeclared".split()
+REFUSALS = (
+    "too-long not-ascii empty unknown-word bad-number bad-name too-many-steps too-many-accesses bad-register too-many-grantees "
+    "duplicate-grantee unknown-table table-exists bad-columns duplicate-access bad-column-number skip-past-end log-full too-many-names"
+).split()
 
 # a grant by its place and its position among those of the place
 Grant = collections.namedtuple("Grant", "place position grantor grantee kind table option")
@@ -19,6 +26,7 @@ class World:
         lines = log.decode("latin-1").split("\n")[:-1]
         self.version = 2 if lines[:1] == ["BOHM 2"] else 1
         self.owners, self.created, self.users, self.deeds, self.places = {}, {}, {}, [], 0
+        self.report, self.denied = report, []
         for line, told in zip(lines[self.version - 1 :], report.decode("latin-1").split("\n")[:-1]):
             if not told.startswith("line "):
                 self.take(line.split(" "), told.split(" "))
@@ -26,6 +34,7 @@ class World:
     def take(self, words, told):
         place, self.places = int(told[0]), self.places + 1
         self.users.setdefault(words[0], len(self.users))
+        self.denied += [place] * (told[1] == "denied")
         deed = next((at for at in range(1, len(words)) if words[at] in ("GRANT", "REVOKE")), None)
         if words[1] == "CREATE":
             self.owners[words[2]], self.created[words[2]] = words[0], place
@@ -104,8 +113,18 @@ def revokes(deed, grant):
     )
 
 
+def summary(report):
+    """The lines of `bohm summary`."""
+    lines = [it.split(" ") for it in report.decode().splitlines()]
+    refused = collections.Counter(it[3] for it in lines if it[0] == "line")
+    became = collections.Counter(it[1] for it in lines if it[0] != "line")
+    told = [f"lines {len(lines)}", f"places {sum(became.values())}", *(f"{it} {became[it]}" for it in OUTCOMES)]
+    return [*told, f"refused {sum(refused.values())}", *(f"refused {it} {refused[it]}" for it in REFUSALS if refused[it])]
+
+
 def questions(world):
     """Questions about a log, each the words before and after its file, and the lines that answer it."""
+    yield ["summary"], [], summary(world.report)
     for table in world.owners:
         for kind in KINDS:
             for place in range(world.created[table] + 1, world.places + 1):

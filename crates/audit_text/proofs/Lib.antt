@@ -1,4 +1,4 @@
-pub mod Explained
+pub mod Earlier
 pub mod LaterTables
 pub mod Longer
 pub mod Pictured
@@ -8,3 +8,7 @@ pub mod Lines
 pub mod SpelledRecords
 pub mod Failing
 pub mod RowsRead
+pub mod Several
+pub mod RunSofar
+pub mod OneReading
+pub mod Flushed

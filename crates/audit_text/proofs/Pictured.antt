@@ -8,7 +8,7 @@ use Rattle.sequencer.specs.Log.{Accepted}
 use Rattle.batched_text.specs.Reaching.{IsLogOfFront, IsLogUpTo}
 use Rattle.audit_text.specs.Picture.{EndsBefore, IsPicture, IsPictureOf, place_before}
 use Rattle.audit_text.specs.declared.fault.WorkFault.{WorkFault}
-use Rattle.audit_text.proofs.Explained.{all-read}
+use Rattle.audit_text.proofs.Earlier.{all-read}
 
 pub pictured : (result : Result (Unit {0}) WorkFault) (i old new : Option (List ℕ)) (log : Accepted) (limit : Option ℕ) → IsLogUpTo i limit log
     → OnOk result ((text : List ℕ) × (IsPictureOf log limit text × Appends old new text))

@@ -21,7 +21,7 @@ use Rattle.audit_text.specs.Picture.{EndsBefore, place_before}
 use Rattle.audit_text.specs.RowsBefore.{IsLogBefore, IsRows, IsRunBefore, LacksTable}
 use Rattle.audit_text.specs.RowsText.{HasNoTable, ListsRows}
 use Rattle.audit_text.specs.declared.fault.WorkFault.{WorkFault}
-use Rattle.audit_text.proofs.Explained.{all-read}
+use Rattle.audit_text.proofs.Earlier.{all-read}
 
 -- the lines of which the first readings are
 pub record AreFront (first : Bool) (version : Version) (lines : List (List ℕ)) (earlier later : List ParsedLine) : Type 0 where

@@ -1,4 +1,5 @@
 pub mod Answer
+pub mod Places
 pub mod Faults
 pub mod Picture
 pub mod Texts

@@ -28,8 +28,8 @@ fn put_grants(
     put_records(text, engine.log().catalog(), names, &grantees)
 }
 
-/// Appends how a need is held, or since when it isn't and by which grants it was held until then. After an error, out of memory, some of
-/// it may be appended.
+/// Appends how a need is held, or since when it isn't and by which grants it was held until then. After an error, out of memory, some of it
+/// may be appended.
 pub fn put_shown(
     alloc: Global,
     text: &mut Vec<u8>,
@@ -67,10 +67,8 @@ fn put_line(
     text.extend_from_slice(b"\n")
 }
 
-/// Appends an explanation of a place of the log to the text, a line for each need: `need KIND table`, then `option` where that is needed,
-/// and then `owner`, `grants` with the records of the chain, `never`, or `taken` with the place of the revocation and `grants` with the
-/// records of the chain until then. Records are spelled as the report spells them. After an error, which means out of memory, some of it
-/// may be after the text.
+/// Appends an explanation of a place of the log, a line for each need, in the words of the report. After an error, out of memory, some of
+/// it may be appended.
 pub fn put_explanation(
     alloc: Global,
     text: &mut Vec<u8>,

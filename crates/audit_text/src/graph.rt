@@ -235,8 +235,8 @@ fn put_granted(
     put_grants(text, names, place, records)
 }
 
-/// Appends the grants in force at a place to the text, as a digraph of Graphviz, by the names of the log that made the book; where a name
-/// is missing there is nothing for it. On `Err`, out of memory, some of it may be after the text.
+/// Appends the grants in force at a place as a digraph of Graphviz, by the names of the log that made the book. After an error, out of
+/// memory, some of it may be appended.
 pub fn put_graph(
     text: &mut Vec<u8>,
     names: &Catalog,

@@ -13,9 +13,7 @@ use model_base::{
     earlier_records_are_cut, ends_are_losses, ends_are_revocations, unended_records_are_in_force,
 };
 
-/// Of a book that shows some deeds the drawn grants are those that the deeds below the place leave in force; and the dashed ones
-/// are those that the revocation of the place took, so there are none where no revocation has the place. The function does
-/// nothing but name the laws that it rests on.
+/// Of which grants a picture of a book has edges, and of which dashed ones. The function does nothing but name the laws that it rests on.
 pub fn edges_are_grants_in_force()
     ensures edges { (book : Entries) (owners : List ℕ) (deeds : List Deed) (place : ℕ) → ShowsBook book owners deeds
         → recorded (drawn place book.records) ≡ kept owners (deeds_below place deeds) }

@@ -79,7 +79,7 @@ fn put_explained(
 }
 
 /// Appends the answer to a question about a place of the log to the text. An error means out of memory.
-fn put_found(
+pub(crate) fn put_found(
     alloc: Global,
     text: &mut Vec<u8>,
     engine: &Engine,

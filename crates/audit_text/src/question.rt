@@ -7,6 +7,6 @@ use model_base::Place;
 pub struct Question {
     /// The place: the index of a statement among those that the log accepted, from 0 on.
     pub place: Place,
-    /// Whether the answer is checked, and `checked` is known after it where the check accepts it.
+    /// Whether the answer is checked, and ends with `checked` where the check accepts it.
     pub is_checked: bool,
 }

@@ -1,7 +1,6 @@
 -- What work that ended for want of something says that its log lacks.
 use Rattle.std.proofs.Common.{◌≡◌, ℕ, Err, Ok, Result, refl, subst}
 use Rattle.std.specs.Prelude.{IfErr}
-use Rattle.line_io.specs.declared.fault.EngineFault.{EngineFault}
 use Rattle.audit_text.specs.declared.fault.WorkFault.{WorkFault}
 use Rattle.command_line.specs.Tasks.{IsLack}
 

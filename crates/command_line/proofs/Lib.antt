@@ -1,4 +1,5 @@
 pub mod Lacking
 pub mod Numbers
+pub mod Several
 pub mod Telling
 pub mod Told

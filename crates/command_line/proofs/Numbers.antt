@@ -1,16 +1,15 @@
 -- A number that is read from a text, against its limits, and from the matches of a command.
-use Rattle.std.proofs.Common.{◌≡◌, ◌≤◌, ℕ, Bool, true, false, List, Option, Some, None, Ok, Err, refl, ap, codes, ◌∙◌}
-use Rattle.std.specs.Prelude.{bytes_eq, option_and_then, option_map}
+use Rattle.std.proofs.Common.{◌≡◌, ◌≤◌, ℕ, Bool, true, false, Option, Some, None, Ok, Err, refl, ap, codes, ◌∙◌}
+use Rattle.std.specs.Prelude.{bytes_eq, option_and_then}
 use Rattle.std.specs.Option.{option_map_or}
 use Rattle.std.specs.Str.Parse.{ParsesUnsigned}
 use Rattle.clap.specs.ValueTests.{is_unsigned_in}
-use Rattle.clap.specs.Words.{Row, Text, first_value, rows_of}
+use Rattle.clap.specs.Words.{Text, first_value, rows_of}
 use Rattle.clap.specs.declared.builder.value_parser.ValueParser.TheVariants as vp
 use Rattle.clap.specs.declared.parser.matches.Found.{Found}
 use Rattle.clap.proofs.ValueTestLemmas.{Accepts-accepts, accepts-Accepts}
 use Rattle.clap.proofs.WalkLemmas.{first_value-rows}
-use Rattle.audit_text.specs.declared.question.Question.{Question}
-use Rattle.command_line.specs.Options.{has_flag, number_among, number_within, question_among}
+use Rattle.command_line.specs.Options.{has_flag, number_among, number_within}
 
 -- a number within the limits
 pub read_within : (least most : ℕ) (text : Text) (n : ℕ) → ParsesUnsigned {E = ℕ} 64 10 text (Ok n) → least ≤ n → n ≤ most
@@ -46,16 +45,3 @@ flag_some f name text is = ap (λ (o : Option Text). option_map_or (λ t. bytes_
 -- and one that has none
 pub flag_none : (f : Found) (name : Text) → None ≡ first_value f name → false ≡ has_flag name (rows_of f)
 flag_none f name is = ap (λ (o : Option Text). option_map_or (λ t. bytes_eq t (codes "true")) o false) (is ∙ first_value-rows f name)
-
--- a question by its place and its flag
-abbrev asking : Bool → ℕ → Question
-asking flag place = record { place = place; is_checked = flag }
-
-pub question_some : (rows : List Row) (place : ℕ) (flag : Bool) → flag ≡ has_flag (codes "check") rows
-    → Some place ≡ number_among (codes "PLACE") 0 4294967294 rows → Some (record { place = place; is_checked = flag }) ≡ question_among rows
-question_some rows place flag told is =
-    ap (λ (b : Bool). Some (asking b place)) told ∙ ap (option_map (asking (has_flag (codes "check") rows))) is
-
--- and no question without a place
-pub question_none : (rows : List Row) → None ≡ number_among (codes "PLACE") 0 4294967294 rows → None ≡ question_among rows
-question_none rows is = ap (option_map (asking (has_flag (codes "check") rows))) is

@@ -1,12 +1,13 @@
 -- What a task writes of its log answers the command that asks for the task.
 use Rattle.std.proofs.Common.{◌≡◌, ℕ, Bool, List, None, Option, Some, false, inl, inr, subst, true}
 use Rattle.std.specs.Prelude.{IfSome, MatchBool}
+use Rattle.audit_text.specs.Places.{AreExplanations, LacksPlaceOf}
 use Rattle.audit_text.specs.Texts.{BeginsText, WritesText}
 use Rattle.audit_text.specs.declared.fault.WorkFault.{WorkFault}
 use Rattle.batched_text.specs.declared.settings.Arrival.{Arrival}
 use Rattle.batched_text.specs.declared.settings.Settings.{Settings}
 use Rattle.command_line.specs.Running.{AnswersCommand, CommandLacks, IsInOrder, IsTaskOf}
-use Rattle.command_line.specs.Tasks.{AnswersTask, TaskLacks}
+use Rattle.command_line.specs.Tasks.{AnswersTask, SaysLack, TaskLacks}
 use Rattle.command_line.specs.Ways.{is_alone}
 use Rattle.command_line.specs.declared.command_words.Command.{Command}
 use Rattle.command_line.specs.declared.options.Choice.{Choice}
@@ -28,11 +29,16 @@ answers_as arrival (Command.Run source settings ahead) task is input text says =
     of_run (λ _. AnswersCommand (Command.Run source settings ahead) input text) settings arrival ahead task is
     (λ threads same. subst (λ (t : Task). AnswersTask t input text) same says) (λ same. subst (λ (t : Task). AnswersTask t input text) same says)
 answers_as arrival (Command.Serial source) task is input text says = subst (λ (t : Task). AnswersTask t input text) is says
-answers_as arrival (Command.Explain source question) task is input text says = subst (λ (t : Task). AnswersTask t input text) is says
+answers_as arrival (Command.Explain source places checked) task is input text says =
+    let told = subst (λ (t : Task). AnswersTask t input text) is.1.1.1 says in
+    subst (λ (asked : List ℕ). AreExplanations input asked checked text) is.1.0
+    (subst (λ (flag : Bool). AreExplanations input is.0.places.now flag text) is.1.1.0 told)
+answers_as arrival (Command.Denials source checked) task is input text says = subst (λ (t : Task). AnswersTask t input text) is says
 answers_as arrival (Command.Grants source limit) task is input text says = subst (λ (t : Task). AnswersTask t input text) is says
 answers_as arrival (Command.Rows source which) task is input text says = subst (λ (t : Task). AnswersTask t input text) is says
 answers_as arrival (Command.Holders source which) task is input text says = subst (λ (t : Task). AnswersTask t input text) is says
 answers_as arrival (Command.History source which) task is input text says = subst (λ (t : Task). AnswersTask t input text) is says
+answers_as arrival (Command.Summary source) task is input text says = subst (λ (t : Task). AnswersTask t input text) is says
 
 pub writes_as : (arrival : Arrival) (command : Command) (task : Task) (log old new : Option (List ℕ)) → IsTaskOf arrival command task
     → WritesText (AnswersTask task) log old new → WritesText (AnswersCommand command) log old new
@@ -53,11 +59,14 @@ lacks_in arrival (Command.Run source settings ahead) task is fault input lacks =
     of_run (λ _. CommandLacks (Command.Run source settings ahead) fault input) settings arrival ahead task is
     (λ threads same. subst (λ (t : Task). TaskLacks t fault input) same lacks) (λ same. subst (λ (t : Task). TaskLacks t fault input) same lacks)
 lacks_in arrival (Command.Serial source) task is fault input lacks = subst (λ (t : Task). TaskLacks t fault input) is lacks
-lacks_in arrival (Command.Explain source question) task is fault input lacks = subst (λ (t : Task). TaskLacks t fault input) is lacks
+lacks_in arrival (Command.Explain source places checked) task is fault input lacks =
+    subst (λ (asked : List ℕ). SaysLack (LacksPlaceOf input asked) ⊥ ⊥ fault) is.1.0 (subst (λ (t : Task). TaskLacks t fault input) is.1.1.1 lacks)
+lacks_in arrival (Command.Denials source checked) task is fault input lacks = subst (λ (t : Task). TaskLacks t fault input) is lacks
 lacks_in arrival (Command.Grants source limit) task is fault input lacks = subst (λ (t : Task). TaskLacks t fault input) is lacks
 lacks_in arrival (Command.Rows source which) task is fault input lacks = subst (λ (t : Task). TaskLacks t fault input) is lacks
 lacks_in arrival (Command.Holders source which) task is fault input lacks = subst (λ (t : Task). TaskLacks t fault input) is lacks
 lacks_in arrival (Command.History source which) task is fault input lacks = subst (λ (t : Task). TaskLacks t fault input) is lacks
+lacks_in arrival (Command.Summary source) task is fault input lacks = subst (λ (t : Task). TaskLacks t fault input) is lacks
 
 pub lacks_as : (arrival : Arrival) (command : Command) (task : Task) (found fault : WorkFault) (log : Option (List ℕ)) → IsTaskOf arrival command task → found ≡ fault
     → IfSome log (TaskLacks task found) → IfSome log (CommandLacks command fault)

@@ -1,4 +1,5 @@
 pub mod Options
+pub mod Places
 pub mod Privileges
 pub mod Running
 pub mod Shapes

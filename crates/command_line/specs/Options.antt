@@ -7,10 +7,9 @@ use Rattle.clap.specs.Walk.{Row, Rule, Text, first_of}
 use Rattle.clap.specs.Simple.{App, new_rule, with_rule}
 use Rattle.clap.specs.declared.builder.value_parser.ValueParser.TheVariants as vp
 use Rattle.model_base.specs.declared.limits.TheConstants.{MOST_BATCH_STATEMENTS, MOST_KEPT_BATCHES, MOST_PARTITIONS, MOST_PLACES, MOST_WORKERS}
-use Rattle.audit_text.specs.declared.question.Question.{Question}
 use Rattle.command_line.specs.declared.options.Choice.{Choice}
 use Rattle.command_line.specs.declared.options.Limit.{Limit}
-use Rattle.command_line.specs.declared.options.TheConstants.{MOST_AHEAD, MOST_PLACE}
+use Rattle.command_line.specs.declared.options.TheConstants.{MOST_AHEAD}
 use Rattle.command_line.specs.declared.options.Progress.{Progress}
 use Rattle.command_line.specs.declared.options.RowsAsked.{RowsAsked}
 
@@ -74,12 +73,6 @@ abbrev pub progress_among : List Row → Progress
 progress_among rows =
     if has_flag (codes "no-progress") rows then Progress.Hidden
     else (if has_flag (codes "progress") rows then Progress.Shown else Progress.Usual)
-
--- the question of `explain`, if its place is within the limits
-abbrev pub question_among : List Row → Option Question
-question_among rows =
-    option_map (λ place. record { place = place; is_checked = has_flag (codes "check") rows })
-    (number_among (codes "PLACE") 0 MOST_PLACE rows)
 
 -- the limit by the place that is given, or else the end of the log
 abbrev pub limit_by : Choice → Limit

@@ -1,7 +1,7 @@
 -- The program's words, as they are described to `clap`: its subcommands, their arguments and options.
 use Rattle.std.specs.Prelude.{List, Some, codes, map, true}
 use Rattle.clap.specs.Words.{App, Rule, Text, new_app, new_rule, with_rule, with_subcommand}
-use Rattle.clap.specs.declared.builder.action.ArgAction.TheVariants.{SetTrue}
+use Rattle.clap.specs.declared.builder.action.ArgAction.TheVariants.{Append, SetTrue}
 use Rattle.clap.specs.declared.builder.value_parser.ValueParser.TheVariants as vp
 use denote.Ref.{Bor}
 use Rattle.command_line.specs.Options.{with_options}
@@ -27,19 +27,23 @@ flag_rule name = record (new_rule name) {
 abbrev pub with_progress : App → App
 with_progress command = with_rule (with_rule command (flag_rule (codes "progress"))) (flag_rule (codes "no-progress"))
 
--- `run` may have one word, FILE, and its options
+-- `run` may have one word, FILE, its options, and a flag of its own
 abbrev pub run_app : App
-run_app = with_options (with_rule (new_app (codes "run")) (new_rule (codes "FILE")))
+run_app = with_rule (with_options (with_rule (new_app (codes "run")) (new_rule (codes "FILE")))) (flag_rule (codes "summary"))
 
 -- a subcommand of this name that has to have FILE, as `serial` is
 abbrev pub over_file : Text → App
 over_file name = with_rule (new_app name) (required_rule (codes "FILE"))
 
--- `explain` has to have FILE and PLACE, and may have a flag of its own
+-- a word PLACE that may be there several times
+abbrev pub places_rule : Rule
+places_rule = record (place_rule (new_rule (codes "PLACE"))) { action = Some Append }
+
+-- `explain` has to have FILE, may have PLACE once or more, and two flags of its own
 abbrev pub explain_app : App
 explain_app =
-    let explain = with_rule (over_file (codes "explain")) (place_rule (required_rule (codes "PLACE"))) in
-    with_rule explain (flag_rule (codes "check"))
+    let explain = with_rule (over_file (codes "explain")) places_rule in
+    with_rule (with_rule explain (flag_rule (codes "check"))) (flag_rule (codes "denied"))
 
 -- `grants` has to have FILE, and may have PLACE
 abbrev pub grants_app : App
@@ -66,11 +70,12 @@ history_app =
     let history = with_rule (with_rule history (required_rule (codes "KIND"))) (required_rule (codes "TABLE")) in
     with_rule history (new_rule (codes "OPTION"))
 
--- a log is run, by the executor or the reference executor
+-- a log is run, by the executor or the reference executor, or for the counts of its report
 abbrev pub with_runs : App → App
 with_runs app =
     let app = with_subcommand app (with_progress run_app).top in
-    with_subcommand app (with_progress (over_file (codes "serial"))).top
+    let app = with_subcommand app (with_progress (over_file (codes "serial"))).top in
+    with_subcommand app (with_progress (over_file (codes "summary"))).top
 
 -- or it is asked what stands before a place of it
 abbrev pub with_questions : App → App
@@ -85,7 +90,7 @@ with_privileges app =
     let app = with_subcommand app (with_progress holders_app).top in
     with_subcommand app (with_progress history_app).top
 
--- the program has a version and these seven subcommands, one of which has to be there; each may have the flags for progress
+-- the program has a version and these eight subcommands, one of which has to be there; each may have the flags for progress
 abbrev pub bohm_app : App
 bohm_app =
     let app = with_privileges (with_questions (with_runs (new_app (codes "bohm")))) in

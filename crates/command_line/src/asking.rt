@@ -2,32 +2,18 @@
 
 ghost use Rattle.std.specs.Prelude.{◌≡◌, codes, option_map};
 ghost use Rattle.clap.specs.Words.{first_of, found_of, rows_of};
-ghost use Rattle.log_text.specs.Fault.{kind_named};
 ghost use Rattle.command_line.specs.Privileges.{history_among, history_named, holders_among, holders_named, kind_among, option_told};
 
 use crate::options::limit_of;
 use clap::ArgMatches;
 use model_base::{Kind, MOST_PLACES};
-use privileges_text::{HistoryAsked, HoldersAsked};
+use privileges_text::{HistoryAsked, HoldersAsked, kind_named};
 
 /// The word of an argument, if it is there.
 fn word_of<'a>(found: &ArgMatches<'a>, name: &str) -> Option<&'a str>
     ensures { option_map (λ word. word.now) result ≡ first_of name.now (rows_of (found_of found.now)) }
 {
     found.get_str(name)
-}
-
-/// The kind that a word names.
-fn kind_named(word: &str) -> Option<Kind>
-    ensures { result ≡ kind_named word.now }
-{
-    match word {
-        "READ" => Some(Kind::Read),
-        "INSERT" => Some(Kind::Insert),
-        "UPDATE" => Some(Kind::Update),
-        "DELETE" => Some(Kind::Delete),
-        _ => None,
-    }
 }
 
 /// The kind that is asked for, if the word is one.

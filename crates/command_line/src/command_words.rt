@@ -1,23 +1,25 @@
 //! The words of the command line, and how a run of the program ends.
 
-ghost use Rattle.std.specs.Prelude.{◌≡◌, ◌⊎◌, [], Err, IfOk, IfErr, IfSome, OnOk, codes, unwrap_or};
+ghost use Rattle.std.specs.Prelude.{◌≡◌, ◌⊎◌, [], IfOk, IfErr, IfSome, OnOk, Some, codes, unwrap_or};
 ghost use Rattle.std.specs.Option.{option_map};
 ghost use Rattle.clap.specs.Words.{fault_of, found_of, kind_of, rows_of, subcommand_of, subcommand_rows_of};
 ghost use Rattle.command_line.specs.Shapes.{bohm_app, texts_of};
-ghost use Rattle.command_line.specs.Words.{Asks, IsMisuse, IsWithinLimits, TellsError, TellsOneOf, asked, asked_by, asked_in, message_of, path_named, path_of, progress_in, status_of, stream_of, verb_named};
+ghost use Rattle.command_line.specs.Words.{Asks, IsMisuse, IsWithinLimits, TellsError, TellsOneOf, asked, asked_by, explained_by, is_summarized, message_of, path_named, path_of, progress_in, status_of, stream_of, verb_named};
 
 use crate::asking::{history_asked, holders_asked};
 use crate::options::{
-    Choice, Limit, MOST_PLACE, Progress, RowsAsked, limit_of, progress_of, question_of, rows_asked,
+    Choice, Limit, MOST_PLACE, Progress, RowsAsked, has_flag, limit_of, progress_of, rows_asked,
     way_of,
 };
+use crate::places::places_of;
 use crate::subcommands::program;
-use audit_text::{Question, WorkFault};
+use audit_text::WorkFault;
 use batched_text::Settings;
 use clap::error::ErrorKind;
 use clap::{ArgMatches, Error};
+use model_base::Place;
 use privileges_text::{HistoryAsked, HoldersAsked};
-use std::alloc::Global;
+use std::alloc::{AllocError, Global};
 use std::fmt;
 
 /// Where a log is read from.
@@ -41,15 +43,17 @@ impl<'a> Source<'a> {
 }
 
 /// What the program is asked to do.
-#[derive(Clone, Copy)]
+#[derive(Drop)]
 pub enum Command<'a> {
     /// Execute a log by these settings and write its report: in order where they are one worker and one partition, while this many threads
     /// read lines ahead, and otherwise in batches.
     Run(Source<'a>, Settings, Choice),
     /// Execute a log by the slow serial run, and write its report.
     Serial(Source<'a>),
-    /// Answer a question about a place of a log.
-    Explain(Source<'a>, Question),
+    /// Explain why the statements of these places were admitted or denied, and check that where it is asked for.
+    Explain(Source<'a>, Vec<Place>, bool),
+    /// Explain so each denied place, and check that where it is asked for.
+    Denials(Source<'a>, bool),
     /// Write the grants in force before a place of a log, or at its end.
     Grants(Source<'a>, Limit),
     /// Write the rows that are there before a place of a log, or at its end.
@@ -58,6 +62,8 @@ pub enum Command<'a> {
     Holders(Source<'a>, HoldersAsked<'a>),
     /// Write when a user held a privilege.
     History(Source<'a>, HistoryAsked<'a>),
+    /// Execute a log, and write how many lines of its report say what.
+    Summary(Source<'a>),
 }
 
 impl<'a> Command<'a> {
@@ -67,25 +73,29 @@ impl<'a> Command<'a> {
     pub fn source(&self) -> Source<'a>
         ensures { path_of result ≡ path_in self.now }
     {
-        match *self {
+        match self {
             Command::Run(source, _, _)
             | Command::Serial(source)
-            | Command::Explain(source, _)
+            | Command::Explain(source, _, _)
+            | Command::Denials(source, _)
             | Command::Grants(source, _)
             | Command::Rows(source, _)
             | Command::Holders(source, _)
-            | Command::History(source, _) => source,
+            | Command::History(source, _)
+            | Command::Summary(source) => *source,
         }
     }
 }
 
 /// What the words of the command line ask for.
-#[derive(Clone, Copy)]
+#[derive(Drop)]
 pub struct Request<'a> {
     /// What is done.
     pub command: Command<'a>,
     /// Whether progress is shown meanwhile.
     pub progress: Progress,
+    /// Whether the lines of what is written are counted by their words.
+    pub is_summarized: bool,
 }
 
 /// The subcommands.
@@ -98,6 +108,7 @@ pub enum Verb {
     Rows,
     Holders,
     History,
+    Summary,
 }
 
 /// Why the words are no command, with the text to print.
@@ -147,8 +158,9 @@ impl fmt::Display for Misuse {
 
     fn fmt<W: fmt::Write>(&self, f: &mut fmt::Formatter<W>) -> fmt::Result {
         f.write_str(match self.0 {
-            Verb::Run | Verb::Serial => "bad settings",
-            Verb::Explain | Verb::Grants => "PLACE is 0 to 4294967294",
+            Verb::Run | Verb::Serial | Verb::Summary => "bad settings",
+            Verb::Explain => "explain has one PLACE or more, or --denied",
+            Verb::Grants => "PLACE is 0 to 4294967294",
             Verb::Rows => "a word that begins with a digit is PLACE, 0 to 4294967295",
             Verb::Holders => "KIND is READ, INSERT, UPDATE or DELETE",
             Verb::History => "KIND is READ, INSERT, UPDATE or DELETE, and the last word OPTION",
@@ -205,6 +217,7 @@ fn verb_of(name: &str) -> Verb
         "rows" => Verb::Rows,
         "holders" => Verb::Holders,
         "history" => Verb::History,
+        "summary" => Verb::Summary,
         _ => Verb::Run,
     }
 }
@@ -219,45 +232,83 @@ fn source_of<'a>(file: Option<&'a str>) -> Source<'a>
     }
 }
 
-/// The command of a subcommand over the log of a source, if its words go together.
-fn command_of<'a>(verb: Verb, source: Source<'a>, found: &ArgMatches<'a>) -> Option<Command<'a>>
-    ensures asks { option_map asked result ≡ asked_by verb (path_of source.entry) (rows_of (found_of found.now)) }
+/// The command that explains the denied places, where it is asked for.
+fn denials_if<'a>(source: Source<'a>, is_denied: bool, is_checked: bool) -> Option<Command<'a>>
+    ensures asks { option_map asked result ≡ explained_by (path_of source.entry) is_checked is_denied (Some []) }
     ensures within { IfSome result IsWithinLimits }
+{
+    if is_denied {
+        return Some(Command::Denials(source, is_checked));
+    }
+    None
+}
+
+/// The command of `explain` over the log of a source, if its words name one place or more, or ask for those that were denied, and not both.
+fn explain_command<'a>(
+    alloc: Global,
+    source: Source<'a>,
+    found: &ArgMatches<'a>,
+) -> Result<Option<Command<'a>>, AllocError>
+    ensures asks { IfOk result (λ told. option_map asked told
+        ≡ asked_by Verb.Explain (path_of source.entry) (rows_of (found_of found.now))) }
+    ensures within { IfOk result (λ told. IfSome told IsWithinLimits) }
+{
+    let is_checked = has_flag(found, "check");
+    let is_denied = has_flag(found, "denied");
+    let Some(places) = places_of(alloc, found)? else {
+        return Ok(None);
+    };
+    if places.is_empty() {
+        return Ok(denials_if(source, is_denied, is_checked));
+    }
+    if is_denied {
+        return Ok(None);
+    }
+    Ok(Some(Command::Explain(source, places, is_checked)))
+}
+
+/// The command of a subcommand over the log of a source, if its words go together. An error means out of memory.
+fn command_of<'a>(
+    alloc: Global,
+    verb: Verb,
+    source: Source<'a>,
+    found: &ArgMatches<'a>,
+) -> Result<Option<Command<'a>>, AllocError>
+    ensures asks { IfOk result (λ told. option_map asked told ≡ asked_by verb (path_of source.entry) (rows_of (found_of found.now))) }
+    ensures within { IfOk result (λ told. IfSome told IsWithinLimits) }
 {
     match verb {
         Verb::Run => match way_of(found) {
-            Some(way) => Some(Command::Run(source, way.settings, way.ahead)),
-            None => None,
+            Some(way) => Ok(Some(Command::Run(source, way.settings, way.ahead))),
+            None => Ok(None),
         },
-        Verb::Serial => Some(Command::Serial(source)),
-        Verb::Explain => match question_of(found) {
-            Some(question) => Some(Command::Explain(source, question)),
-            None => None,
-        },
+        Verb::Serial => Ok(Some(Command::Serial(source))),
+        Verb::Explain => explain_command(alloc, source, found),
         Verb::Grants => match limit_of(found, MOST_PLACE) {
-            Some(limit) => Some(Command::Grants(source, limit)),
-            None => None,
+            Some(limit) => Ok(Some(Command::Grants(source, limit))),
+            None => Ok(None),
         },
         Verb::Rows => match rows_asked(found) {
-            Some(which) => Some(Command::Rows(source, which)),
-            None => None,
+            Some(which) => Ok(Some(Command::Rows(source, which))),
+            None => Ok(None),
         },
         Verb::Holders => match holders_asked(found) {
-            Some(which) => Some(Command::Holders(source, which)),
-            None => None,
+            Some(which) => Ok(Some(Command::Holders(source, which))),
+            None => Ok(None),
         },
         Verb::History => match history_asked(found) {
-            Some(which) => Some(Command::History(source, which)),
-            None => None,
+            Some(which) => Ok(Some(Command::History(source, which))),
+            None => Ok(None),
         },
+        Verb::Summary => Ok(Some(Command::Summary(source))),
     }
 }
 
-/// The command of the subcommand that was entered. An error where its words don't go together.
-fn command_in<'a>(matches: &ArgMatches<'a>) -> Result<Command<'a>, Usage>
+/// The command of the subcommand that was entered. An error where its words don't go together, or out of memory.
+fn command_in<'a>(alloc: Global, matches: &ArgMatches<'a>) -> Result<Command<'a>, Usage>
     ensures asks { IfOk result (λ command. Asks command (subcommand_rows_of matches.now)) }
     ensures within { IfOk result IsWithinLimits }
-    ensures misused { IfErr result (λ usage. IsMisuse usage (subcommand_rows_of matches.now)) }
+    ensures misused { IfErr result (λ usage. (usage ≡ Usage.NoMemory) ⊎ IsMisuse usage (subcommand_rows_of matches.now)) }
 {
     let Some((name, found)) = matches.subcommand() else {
         return Err(Usage::Misused(Verb::Run));
@@ -265,9 +316,10 @@ fn command_in<'a>(matches: &ArgMatches<'a>) -> Result<Command<'a>, Usage>
     let file = found.get_str("FILE");
     let verb = verb_of(name);
     let source = source_of(file);
-    match command_of(verb, source, found) {
-        Some(command) => Ok(command),
-        None => Err(Usage::Misused(verb)),
+    match command_of(alloc, verb, source, found) {
+        Ok(Some(command)) => Ok(command),
+        Ok(None) => Err(Usage::Misused(verb)),
+        Err(_) => Err(Usage::NoMemory),
     }
 }
 
@@ -281,14 +333,23 @@ fn progress_in(matches: &ArgMatches<'_>) -> Progress
     progress_of(found)
 }
 
-/// Reads the words of the command line, the program's name first. The words are judged by `clap`: an answered command
-/// is the one of the subcommand that it finds, with the file and the settings that it finds, and these are within their
-/// limits. Words that it takes fail only where a growth was refused, or where they don't go together. Help is
-/// answered only where the words ask for it, and a fault only where they are wrong.
+/// Whether lines are counted, by the flag of the subcommand that was entered.
+fn is_summarized(matches: &ArgMatches<'_>) -> bool
+    ensures { result ≡ is_summarized (subcommand_rows_of matches.now) }
+{
+    let Some((_name, found)) = matches.subcommand() else {
+        return false;
+    };
+    has_flag(found, "summary")
+}
+
+/// Reads the words of the command line, the program's name first, as `clap` judges them.
 pub fn read_words<'a>(alloc: Global, words: &'a [&'a str]) -> Result<Request<'a>, Usage>
     ensures taken { OnOk result (fault_of bohm_app (texts_of words.entry.now) ≡ []) }
     ensures asked { IfOk result (λ request. Asks request.command (subcommand_of bohm_app (texts_of words.entry.now))) }
     ensures progress { IfOk result (λ request. request.progress ≡ progress_in (subcommand_of bohm_app (texts_of words.entry.now))) }
+    ensures summarized { IfOk result (λ request. request.is_summarized
+        ≡ is_summarized (subcommand_of bohm_app (texts_of words.entry.now))) }
     ensures within { IfOk result (λ request. IsWithinLimits request.command) }
     ensures fault { IfErr result (λ usage. fault_of bohm_app (texts_of words.entry.now) ≡ []
         → (usage ≡ Usage.NoMemory) ⊎ IsMisuse usage (subcommand_of bohm_app (texts_of words.entry.now))) }
@@ -303,10 +364,11 @@ pub fn read_words<'a>(alloc: Global, words: &'a [&'a str]) -> Result<Request<'a>
         Ok(matches) => matches,
         Err(error) => return Err(usage_of(alloc, &error)),
     };
-    match command_in(&matches) {
+    match command_in(alloc, &matches) {
         Ok(command) => Ok(Request {
             command,
             progress: progress_in(&matches),
+            is_summarized: is_summarized(&matches),
         }),
         Err(usage) => Err(usage),
     }
@@ -321,7 +383,9 @@ pub fn ending(fault: &ProgramFault) -> (u8, Stream)
         ProgramFault::Usage(Usage::Fault(_)) => (2, Stream::Error),
         ProgramFault::Usage(Usage::NotUtf8) => (2, Stream::Error),
         ProgramFault::Usage(Usage::Help(_)) => (0, Stream::Output),
-        ProgramFault::Usage(Usage::Misused(Verb::Run | Verb::Serial)) => (1, Stream::Error),
+        ProgramFault::Usage(Usage::Misused(Verb::Run | Verb::Serial | Verb::Summary)) => {
+            (1, Stream::Error)
+        }
         ProgramFault::Usage(Usage::Misused(_)) => (2, Stream::Error),
         ProgramFault::Usage(Usage::NoMemory) => (1, Stream::Error),
         ProgramFault::Open(_) | ProgramFault::Work(_) => (1, Stream::Error),

@@ -10,6 +10,7 @@ mod arguments;
 mod asking;
 mod command_words;
 mod options;
+mod places;
 mod running;
 mod sources;
 mod subcommands;

@@ -5,9 +5,8 @@ ghost use Rattle.std.specs.Prelude.{◌≡◌, ◌≤◌, ◌∷◌, ◌||◌, [
 ghost use Rattle.command_line.specs.Ways.{IsWithin, is_alone, way_among, way_by, way_told};
 ghost use Rattle.clap.specs.Words.{app_of, found_of, rows_of, with_rule};
 ghost use Rattle.batched_text.specs.Settings.{are_within_limits};
-ghost use Rattle.command_line.specs.Options.{IfGiven, choice_among, choice_within, given_or, has_flag, is_given, limit_among, limit_by, number_among, number_rule, number_within, place_named, progress_among, question_among, rows_among, rows_named, starts_with_digit, table_and_place, with_options};
+ghost use Rattle.command_line.specs.Options.{IfGiven, choice_among, choice_within, given_or, has_flag, is_given, limit_among, limit_by, number_among, number_rule, number_within, place_named, progress_among, rows_among, rows_named, starts_with_digit, table_and_place, with_options};
 
-use audit_text::Question;
 use batched_text::Settings;
 use clap::builder::ValueParser;
 use clap::{Arg, ArgMatches, Command};
@@ -116,7 +115,7 @@ pub(crate) fn with_options<'a>(alloc: Global, run: Command<'a>) -> Result<Comman
 }
 
 /// The number that a text gives, if it is one within these limits.
-fn number_within(text: &str, least: u64, most: u64) -> Option<u64>
+pub(crate) fn number_within(text: &str, least: u64, most: u64) -> Option<u64>
     ensures told { result ≡ number_within least most text.now }
     ensures within { IfSome result (λ n. (least ≤ n) × (n ≤ most)) }
 {
@@ -293,7 +292,7 @@ pub(crate) fn way_of(found: &ArgMatches<'_>) -> Option<Way>
 }
 
 /// Whether the flag of this name is among the words.
-fn has_flag(found: &ArgMatches<'_>, name: &str) -> bool
+pub(crate) fn has_flag(found: &ArgMatches<'_>, name: &str) -> bool
     ensures { result ≡ has_flag name.now (rows_of (found_of found.now)) }
 {
     match found.get_str(name) {
@@ -312,27 +311,6 @@ pub(crate) fn progress_of(found: &ArgMatches<'_>) -> Progress
         Progress::Shown
     } else {
         Progress::Usual
-    }
-}
-
-/// The place that the words give, if they say one and it is within the limits.
-fn place_of(found: &ArgMatches<'_>) -> Option<Place>
-    ensures { result ≡ number_among (codes "PLACE") 0 MOST_PLACE (rows_of (found_of found.now)) }
-{
-    match found.get_str("PLACE") {
-        Some(text) => number_within(text, 0, MOST_PLACE),
-        None => None,
-    }
-}
-
-/// The question that the words of `explain` ask, if its place is within the limits.
-pub(crate) fn question_of(found: &ArgMatches<'_>) -> Option<Question>
-    ensures { result ≡ question_among (rows_of (found_of found.now)) }
-{
-    let is_checked = has_flag(found, "check");
-    match place_of(found) {
-        Some(place) => Some(Question { place, is_checked }),
-        None => None,
     }
 }
 

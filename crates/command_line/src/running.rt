@@ -12,7 +12,7 @@ use crate::command_words::{Command, ProgramFault, Source};
 use crate::options::{Choice, MOST_AHEAD, is_alone};
 use crate::sources::{Opened, Sources};
 use crate::work::{Job, Task};
-use audit_text::WorkFault;
+use audit_text::{PlacesAsked, WorkFault};
 use batched_text::Arrival;
 use line_io::{Counted, EngineFault};
 use std::alloc::Global;
@@ -48,22 +48,27 @@ fn ahead_by<R: Threads>(rt: &R, choice: Choice) -> u64
 }
 
 /// The task that a command asks for, of a log whose bytes arrive so.
-fn task_of<'a, R: Threads>(rt: &R, command: Command<'a>, arrival: Arrival) -> Task<'a>
-    requires { IsWithinLimits command }
-    ensures task { IsTaskOf arrival command.entry result }
+fn task_of<'a, R: Threads>(rt: &R, command: &'a Command<'a>, arrival: Arrival) -> Task<'a>
+    requires { IsWithinLimits command.now }
+    ensures task { IsTaskOf arrival command.entry.now result }
     ensures within { TaskIsWithin result }
 {
     match command {
-        Command::Run(_, settings, ahead) if is_alone(&settings) => {
-            Task::InOrder(ahead_by(rt, ahead))
+        Command::Run(_, settings, ahead) if is_alone(settings) => {
+            Task::InOrder(ahead_by(rt, *ahead))
         }
-        Command::Run(_, settings, _) => Task::InBatches(settings, arrival),
+        Command::Run(_, settings, _) => Task::InBatches(*settings, arrival),
         Command::Serial(_) => Task::Slow,
-        Command::Explain(_, question) => Task::Explain(question),
-        Command::Grants(_, limit) => Task::Picture(limit),
-        Command::Rows(_, which) => Task::List(which),
-        Command::Holders(_, which) => Task::Holders(which),
-        Command::History(_, which) => Task::History(which),
+        Command::Explain(_, places, is_checked) => Task::Explain(PlacesAsked {
+            places: places.as_slice(),
+            is_checked: *is_checked,
+        }),
+        Command::Denials(_, is_checked) => Task::Denials(*is_checked),
+        Command::Grants(_, limit) => Task::Picture(*limit),
+        Command::Rows(_, which) => Task::List(*which),
+        Command::Holders(_, which) => Task::Holders(*which),
+        Command::History(_, which) => Task::History(*which),
+        Command::Summary(_) => Task::Summary,
     }
 }
 
@@ -104,36 +109,36 @@ fn open_log<L: Sources>(
 ///
 /// The log is that of the source that the command names, which is opened, and no other: `sources` is used up by that. What is given goes to
 /// the writer, which is flushed at the end. Where the file can't be opened nothing is written.
-pub fn do_command<J: Job, L: Sources, T: Threads + Wait + Sync, W: Write>(
+pub fn do_command<'a, J: Job, L: Sources, T: Threads + Wait + Sync, W: Write>(
     rt: &T,
     alloc: Global,
     job: &J,
-    command: Command<'_>,
+    command: &'a Command<'a>,
     sources: L,
     told: &mut Counted<W>,
 ) -> Result<(), ProgramFault>
-    requires within { IsWithinLimits command }
-    ensures does { DoesCommand (J.answers job.now) (L.arrives sources (path_in command.entry)) command.entry result }
+    requires within { IsWithinLimits command.now }
+    ensures does { DoesCommand (J.answers job.now) (L.arrives sources (path_in command.entry.now)) command.entry.now result }
 
     // What was written is what answers the command about the bytes of the source that it names, and after a fault a beginning of that.
-    ensures done { OnOk result (WritesText (AnswersCommand command.entry) (L.bytes sources (path_in command.entry))
+    ensures done { OnOk result (WritesText (AnswersCommand command.entry.now) (L.bytes sources (path_in command.entry.now))
         (W.contents told.old.inner) (W.contents told.new.inner)) }
-    ensures begun { BeginsText (AnswersCommand command.entry) (L.bytes sources (path_in command.entry))
+    ensures begun { BeginsText (AnswersCommand command.entry.now) (L.bytes sources (path_in command.entry.now))
         (W.contents told.old.inner) (W.contents told.new.inner) }
     // NoSuchPlace comes only where the log of the source has that many places and not this one, NoSuchTable and NoSuchUser only where no
     // statement before the place names one of the name, and nothing is written then.
     ensures lacks { (fault : WorkFault) → result ≡ Err (ProgramFault.Work fault) → IsLack fault
-        → (told.new ≡ told.old) × IfSome (L.bytes sources (path_in command.entry)) (CommandLacks command.entry fault) }
+        → (told.new ≡ told.old) × IfSome (L.bytes sources (path_in command.entry.now)) (CommandLacks command.entry.now fault) }
     // Ok says that the writer didn't fail, and that it was flushed, once, and not written to since.
     ensures whole { OnOk result (told.new.errors ≡ told.old.errors) }
     ensures flushed { OnOk result ((told.new.flushes ≡ raised told.old.flushes) × (told.new.is_flushed ≡ true)) }
     // Open comes only where the file was refused, and then the writer is as it was. Write comes only where the writer failed.
-    ensures unopened { IfErr result (λ fault. IsOpenFault fault → L.refuses sources (path_in command.entry) × (told.new ≡ told.old)) }
+    ensures unopened { IfErr result (λ fault. IsOpenFault fault → L.refuses sources (path_in command.entry.now) × (told.new ≡ told.old)) }
     ensures write { result ≡ Err (ProgramFault.Work (WorkFault.Run EngineFault.Write)) → told.old.errors < 2 ^ 64 - 1
         → told.old.errors < told.new.errors }
     ensures settings { result ≡ Err (ProgramFault.Work (WorkFault.Run EngineFault.BadSettings)) → ⊥ }
 {
-    let Opened { mut log, arrival } = match open_log(alloc, sources, &command) {
+    let Opened { mut log, arrival } = match open_log(alloc, sources, command) {
         Ok(opened) => opened,
         Err(fault) => return Err(fault),
     };

@@ -2,7 +2,7 @@
 
 ghost use Rattle.std.specs.Prelude.{◌≡◌, IfOk, codes, true};
 ghost use Rattle.clap.specs.Words.{app_of, new_rule, with_rule, with_subcommand};
-ghost use Rattle.command_line.specs.Shapes.{bohm_app, explain_app, flag_rule, grants_app, history_app, holders_app, limit_rule, over_file, place_rule, required_rule, rows_app, run_app, with_privileges, with_progress, with_questions, with_runs};
+ghost use Rattle.command_line.specs.Shapes.{bohm_app, explain_app, flag_rule, grants_app, history_app, holders_app, limit_rule, over_file, place_rule, places_rule, required_rule, rows_app, run_app, with_privileges, with_progress, with_questions, with_runs};
 
 use crate::options::{MOST_PLACE, with_options};
 use clap::builder::ValueParser;
@@ -44,6 +44,18 @@ fn with_progress<'a>(alloc: Global, command: Command<'a>) -> Result<Command<'a>,
     )
 }
 
+/// Adds the flag `--summary` to a command's description.
+fn with_summary<'a>(alloc: Global, command: Command<'a>) -> Result<Command<'a>, AllocError>
+    ensures { IfOk result (λ c. app_of c ≡ with_rule (app_of command.entry) (flag_rule (codes "summary"))) }
+{
+    with_flag(
+        alloc,
+        command,
+        "summary",
+        "Writes to standard error, at the end, how many lines of the report say what",
+    )
+}
+
 /// The description of `run`, but for the flags for progress.
 fn describe_run<'a>(alloc: Global) -> Result<Command<'a>, AllocError>
     ensures { IfOk result (λ c. app_of c ≡ run_app) }
@@ -54,7 +66,8 @@ fn describe_run<'a>(alloc: Global) -> Result<Command<'a>, AllocError>
     let run = Command::new(alloc, "run")
         .about("Executes a log, and writes its report to standard output")
         .arg(file)?;
-    with_options(alloc, run)
+    let run = with_options(alloc, run)?;
+    with_summary(alloc, run)
 }
 
 /// The description of a subcommand by its name and what it does: it has the word FILE, which has to be there.
@@ -67,14 +80,14 @@ fn over_file<'a>(alloc: Global, name: &'a str, about: &'a str) -> Result<Command
     Command::new(alloc, name).about(about).arg(file)
 }
 
-/// Adds the word PLACE, which has to be there, to a command's description.
-fn with_place<'a>(alloc: Global, command: Command<'a>) -> Result<Command<'a>, AllocError>
-    ensures { IfOk result (λ c. app_of c ≡ with_rule (app_of command.entry) (place_rule (required_rule (codes "PLACE")))) }
+/// Adds the word PLACE, which may be there several times, to a command's description.
+fn with_places<'a>(alloc: Global, command: Command<'a>) -> Result<Command<'a>, AllocError>
+    ensures { IfOk result (λ c. app_of c ≡ with_rule (app_of command.entry) places_rule) }
 {
     let place = Arg::new(alloc, "PLACE")
-        .required(true)
+        .action(ArgAction::Append)
         .value_parser(ValueParser::unsigned(0, MOST_PLACE))
-        .help("The place of the log to explain");
+        .help("A place of the log to explain. One or more, but none beside --denied");
     command.arg(place)
 }
 
@@ -88,15 +101,22 @@ fn with_limit<'a>(alloc: Global, command: Command<'a>) -> Result<Command<'a>, Al
     command.arg(place)
 }
 
-/// Adds the flag `--check` to a command's description.
-fn with_check<'a>(alloc: Global, command: Command<'a>) -> Result<Command<'a>, AllocError>
-    ensures { IfOk result (λ c. app_of c ≡ with_rule (app_of command.entry) (flag_rule (codes "check"))) }
+/// Adds the flags `--check` and `--denied` to a command's description.
+fn with_explaining<'a>(alloc: Global, command: Command<'a>) -> Result<Command<'a>, AllocError>
+    ensures { IfOk result (λ c. app_of c
+        ≡ with_rule (with_rule (app_of command.entry) (flag_rule (codes "check"))) (flag_rule (codes "denied"))) }
 {
-    with_flag(
+    let command = with_flag(
         alloc,
         command,
         "check",
-        "Checks the explanation, and prints a line 'checked' where it is sound",
+        "Checks each explanation, and prints a line 'checked' where it is sound",
+    )?;
+    with_flag(
+        alloc,
+        command,
+        "denied",
+        "Explains each denied place of the log, in place of those that are named",
     )
 }
 
@@ -107,10 +127,10 @@ fn describe_explain<'a>(alloc: Global) -> Result<Command<'a>, AllocError>
     let explain = over_file(
         alloc,
         "explain",
-        "Explains why the statement of a place was admitted or denied",
+        "Explains why the statements of places were admitted or denied",
     )?;
-    let explain = with_place(alloc, explain)?;
-    with_check(alloc, explain)
+    let explain = with_places(alloc, explain)?;
+    with_explaining(alloc, explain)
 }
 
 /// The description of `grants`, but for the flags for progress.
@@ -256,7 +276,13 @@ fn with_runs<'a>(alloc: Global, program: Command<'a>) -> Result<Command<'a>, All
         "serial",
         "Executes a log by the reference executor, for comparison on logs of up to some thousand lines",
     )?;
-    with_subcommand(alloc, program, serial)
+    let program = with_subcommand(alloc, program, serial)?;
+    let summary = over_file(
+        alloc,
+        "summary",
+        "Executes a log, and writes how many lines of its report say what",
+    )?;
+    with_subcommand(alloc, program, summary)
 }
 
 /// Adds the subcommands that ask what stands before a place to the program's description.

@@ -10,7 +10,7 @@ ghost use Rattle.command_line.specs.declared.work.Task.{Task};
 ghost use Rattle.command_line.specs.Tasks.{AnswersTask, IsLack, MayAnswer, TaskIsWithin, TaskLacks};
 
 use crate::options::{Limit, RowsAsked};
-use audit_text::{Question, WorkFault, explain_text, grants_text, rows_text};
+use audit_text::{PlacesAsked, WorkFault, explain_denied, explain_places, grants_text, rows_text};
 use batched_text::{
     Arrival, Batches, ReadingAhead, Settings, report_alone, report_in_order, report_text,
 };
@@ -22,6 +22,7 @@ use std::alloc::Global;
 use std::io::{Read, Write};
 use std::sync::Wait;
 use std::thread::Threads;
+use summary::summary_text;
 
 /// What is to be done with a log.
 #[derive(Clone, Copy)]
@@ -32,8 +33,10 @@ pub enum Task<'a> {
     InBatches(Settings, Arrival),
     /// Run it by the slow run, which follows the definitions one by one.
     Slow,
-    /// Answer a question about a place.
-    Explain(Question),
+    /// Explain why the statements of these places were admitted or denied.
+    Explain(PlacesAsked<'a>),
+    /// Explain so each denied place, and check that where it is asked for.
+    Denials(bool),
     /// Picture the grants in force before a place, or at the end.
     Picture(Limit),
     /// List the rows that are there before a place, or at the end.
@@ -42,6 +45,8 @@ pub enum Task<'a> {
     Holders(HoldersAsked<'a>),
     /// Tell when a user held a privilege.
     History(HistoryAsked<'a>),
+    /// Run it in order on one thread, and tell how many lines of its report say what.
+    Summary,
 }
 
 /// Work on a log by a task, from the log's bytes to those that it says. A trait, so that only the work itself can give `answers`: a command
@@ -113,7 +118,8 @@ impl Job for SeededJob {
                 Ok(()) => Ok(()),
                 Err(fault) => Err(WorkFault::Run(fault)),
             },
-            Task::Explain(question) => explain_text(alloc, log, told, question, self.seed),
+            Task::Explain(which) => explain_places(alloc, log, told, &which, self.seed),
+            Task::Denials(is_checked) => explain_denied(alloc, log, told, is_checked, self.seed),
             Task::Picture(limit) => grants_text(alloc, log, told, limit.place(), self.seed),
             Task::List(asked) => rows_text(
                 alloc,
@@ -125,6 +131,7 @@ impl Job for SeededJob {
             ),
             Task::Holders(which) => holders_text(alloc, log, told, &which, self.seed),
             Task::History(which) => history_text(alloc, log, told, &which, self.seed),
+            Task::Summary => summary_text(alloc, log, told, self.seed),
         }
     }
 }

@@ -1,6 +1,6 @@
 //! The holders of a privilege, as text.
 
-ghost use Rattle.std.specs.Prelude.{◌≡◌, ◌<◌, ◌++◌, ◌⊎◌, [], IfErr, List, OnOk, None, false, length, ℕ};
+ghost use Rattle.std.specs.Prelude.{◌≡◌, ◌<◌, ◌++◌, ◌⊎◌, [], Err, IfErr, List, OnOk, None, false, length, ℕ};
 ghost use Rattle.std.specs.List.{flat_map};
 ghost use Rattle.line_io.specs.declared.fault.EngineFault.{EngineFault};
 ghost use Rattle.model_base.specs.Outcomes.{deeds_before, owners};
@@ -156,7 +156,7 @@ fn put_holders_of(
 }
 
 /// Writes the holders of a kind on the table of a name, at the end of a log that is run, into an empty text.
-pub(crate) fn put_holders(
+pub fn put_holders(
     alloc: Global,
     text: &mut Vec<u8>,
     engine: &Engine,
@@ -168,6 +168,7 @@ pub(crate) fn put_holders(
     ensures holders { OnOk result (ListsHolders engine.now.log kind name.now text.new.items) }
     ensures none { IfErr result (λ fault. (fault ≡ WorkFault.Run EngineFault.NoMemory)
         ⊎ ((fault ≡ WorkFault.NoSuchTable) × (known_number engine.now.log.names.tables name.now ≡ None))) }
+    ensures lacking { known_number engine.now.log.names.tables name.now ≡ None → result ≡ Err WorkFault.NoSuchTable }
 {
     let table = table_named(engine.log().catalog().tables(), name)?;
     let need = Need {

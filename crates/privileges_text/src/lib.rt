@@ -14,6 +14,7 @@ mod running;
 mod telling;
 mod ways;
 
-pub use asking::{HistoryAsked, HoldersAsked};
+pub use asking::{HistoryAsked, HoldersAsked, kind_named};
+pub use holding::put_holders;
 pub use listing::holders_text;
 pub use telling::history_text;

@@ -1,10 +1,11 @@
-use Rattle.std.proofs.Common.{◌≡◌, Err, None, Some, refl, subst, sym}
+use Rattle.std.proofs.Common.{◌≡◌, refl, subst, sym}
 use Rattle.std.specs.Prelude.{ℕ, IfSome, Option}
 use Rattle.audit_text.specs.Faults.{IsOfAnswer, IsOfPlace}
 use Rattle.audit_text.specs.Picture.{EndsBefore, IsPicture}
 use Rattle.audit_text.specs.RowsBefore.{IsRows, LacksTable}
 use Rattle.audit_text.specs.Texts.{SaysText}
 use Rattle.audit_text.specs.declared.fault.WorkFault.{WorkFault}
+use Rattle.summary.specs.Summary.{IsOfSummary}
 use Rattle.command_line.specs.Options.{rows_named}
 use Rattle.command_line.specs.Tasks.{AnswersTask, TaskLacks}
 use Rattle.command_line.specs.declared.work.Task.{Task}
@@ -14,12 +15,21 @@ use Rattle.command_line.proofs.work.SeededJobJob.work.Goals as goal
 pub returns-in-Explain-clause-lacks : goal.returns-in-Explain-clause-lacks
 returns-in-Explain-clause-lacks g c =
     let log = g.R.Read.remaining c.args.log.now.inner in
-    let ended = c.explain_text.result in
-    lacking ended (λ fault. (c.explain_text.new.writer ≡ c.args.told.now) × IfSome log (TaskLacks c.args.task fault)) (λ places is.
-    let none = c.explain_text.ensures.none places is in
+    let ended = c.explain_places.result in
+    lacking ended (λ fault. (c.explain_places.new.writer ≡ c.args.told.now) × IfSome log (TaskLacks c.args.task fault)) (λ places is.
+    let none = c.explain_places.ensures.none places is in
     (none.0, subst (λ (task : Task). IfSome log (TaskLacks task (WorkFault.NoSuchPlace places))) (sym c.in-Explain.is) none.1))
-    (λ is. absurd ((not_by ended IsOfPlace WorkFault.NoSuchTable c.explain_text.ensures.alone is).1 refl))
-    (λ is. absurd ((not_by ended IsOfPlace WorkFault.NoSuchUser c.explain_text.ensures.alone is).0.1 refl))
+    (λ is. absurd ((not_by ended IsOfPlace WorkFault.NoSuchTable c.explain_places.ensures.alone is).1 refl))
+    (λ is. absurd ((not_by ended IsOfPlace WorkFault.NoSuchUser c.explain_places.ensures.alone is).0.1 refl))
+
+pub returns-in-Denials-clause-lacks : goal.returns-in-Denials-clause-lacks
+returns-in-Denials-clause-lacks g c =
+    let log = g.R.Read.remaining c.args.log.now.inner in
+    let ended = c.explain_denied.result in
+    lacking ended (λ fault. (c.explain_denied.new.writer ≡ c.args.told.now) × IfSome log (TaskLacks c.args.task fault))
+    (λ places is. absurd (c.explain_denied.ensures.none places is))
+    (λ is. absurd ((not_by ended IsOfPlace WorkFault.NoSuchTable c.explain_denied.ensures.alone is).1 refl))
+    (λ is. absurd ((not_by ended IsOfPlace WorkFault.NoSuchUser c.explain_denied.ensures.alone is).0.1 refl))
 
 pub returns-in-Picture-clause-text : goal.returns-in-Picture-clause-text
 returns-in-Picture-clause-text g c =
@@ -71,13 +81,6 @@ returns-in-List-clause-lacks g c =
     ))
     (λ is. absurd ((not_by ended IsOfAnswer WorkFault.NoSuchUser c.rows_text.ensures.alone is).1 refl))
 
-pub returns-in-Holders-clause-text : goal.returns-in-Holders-clause-text
-returns-in-Holders-clause-text g c =
-    let log = g.R.Read.remaining c.args.log.now.inner in
-    let old = g.W.Write.contents c.args.told.now.inner in
-    let new = g.W.Write.contents c.holders_text.new.writer.inner in
-    subst (λ (task : Task). SaysText (AnswersTask task) log old new c.holders_text.result) (sym c.in-Holders.is) c.holders_text.ensures.text
-
 pub returns-in-Holders-clause-lacks : goal.returns-in-Holders-clause-lacks
 returns-in-Holders-clause-lacks g c =
     let log = g.R.Read.remaining c.args.log.now.inner in
@@ -99,3 +102,26 @@ returns-in-History-clause-lacks g c =
     (none.0, subst (λ (task : Task). IfSome log (TaskLacks task WorkFault.NoSuchTable)) (sym c.in-History.is) none.1)) (λ is.
     let none = c.history_text.ensures.user is in
     (none.0, subst (λ (task : Task). IfSome log (TaskLacks task WorkFault.NoSuchUser)) (sym c.in-History.is) none.1))
+
+pub returns-in-Summary-clause-lacks : goal.returns-in-Summary-clause-lacks
+returns-in-Summary-clause-lacks g c =
+    let log = g.R.Read.remaining c.args.log.now.inner in
+    let ended = c.summary_text.result in
+    lacking ended (λ fault. (c.summary_text.new.writer ≡ c.args.told.now) × IfSome log (TaskLacks c.args.task fault))
+    (λ places is. absurd (not_by ended IsOfSummary (WorkFault.NoSuchPlace places) c.summary_text.ensures.alone is))
+    (λ is. absurd (not_by ended IsOfSummary WorkFault.NoSuchTable c.summary_text.ensures.alone is))
+    (λ is. absurd (not_by ended IsOfSummary WorkFault.NoSuchUser c.summary_text.ensures.alone is))
+
+pub returns-in-Holders-clause-text : goal.returns-in-Holders-clause-text
+returns-in-Holders-clause-text g c =
+    let log = g.R.Read.remaining c.args.log.now.inner in
+    let old = g.W.Write.contents c.args.told.now.inner in
+    let new = g.W.Write.contents c.holders_text.new.writer.inner in
+    subst (λ (task : Task). SaysText (AnswersTask task) log old new c.holders_text.result) (sym c.in-Holders.is) c.holders_text.ensures.text
+
+pub returns-in-Summary-clause-text : goal.returns-in-Summary-clause-text
+returns-in-Summary-clause-text g c =
+    let log = g.R.Read.remaining c.args.log.now.inner in
+    let old = g.W.Write.contents c.args.told.now.inner in
+    let new = g.W.Write.contents c.summary_text.new.writer.inner in
+    subst (λ (task : Task). SaysText (AnswersTask task) log old new c.summary_text.result) (sym c.in-Summary.is) c.summary_text.ensures.text
