@@ -15,8 +15,9 @@
  * call starts a thread, waits, prints, or reads a clock or a file. Don't call from a signal handler, nor in the child of a fork of a
  * process that has threads.
  * Errors. A call returns BOHM_DONE or says what was wrong. A misuse (BOHM_CLOSED, BOHM_OPENED, BOHM_ENDED,
- * BOHM_BEGUN, BOHM_OPTION, BOHM_NO_PLACE, BOHM_FORGOTTEN, BOHM_ROOM, BOHM_NO_TABLE, BOHM_WAITING) changes nothing. After BOHM_MEMORY *used
- * and *made are set, the report so far ends in a whole line, and nothing is lost: call again with the rest, or close the handle.
+ * BOHM_BEGUN, BOHM_OPTION, BOHM_NO_PLACE, BOHM_FORGOTTEN, BOHM_ROOM, BOHM_NO_TABLE, BOHM_WAITING, BOHM_NO_KIND) changes nothing. After
+ * BOHM_MEMORY *used and *made are set, the report so far ends in a whole line, and nothing is lost: call again with the rest, or close the
+ * handle.
  */
 #ifndef BOHM_H
 #define BOHM_H
@@ -47,9 +48,10 @@ enum {
     BOHM_OPTION = 7, /* bohm_set: there is no such option */
     BOHM_NO_PLACE = 8,  /* bohm_explain: no such place was reported yet */
     BOHM_FORGOTTEN = 9, /* bohm_explain: the statement of the place isn't kept */
-    BOHM_ROOM = 10,     /* bohm_explain, bohm_rows: there is too little room; *made says how many bytes are needed */
-    BOHM_NO_TABLE = 11, /* bohm_rows: no accepted statement creates the table */
-    BOHM_WAITING = 12   /* bohm_rows: lines wait to be run, after BOHM_MEMORY or BOHM_FULL: make that call again first */
+    BOHM_ROOM = 10,     /* bohm_explain, bohm_rows, bohm_holders: there is too little room; *made says how many bytes are needed */
+    BOHM_NO_TABLE = 11, /* bohm_rows, bohm_holders: no accepted statement creates the table */
+    BOHM_WAITING = 12,  /* bohm_rows, bohm_holders: lines wait to be run, after BOHM_MEMORY or BOHM_FULL: make that call again first */
+    BOHM_NO_KIND = 13   /* bohm_holders: the word isn't READ, INSERT, UPDATE or DELETE */
 };
 
 enum { BOHM_KEEP = 1 }; /* of how many of the last places bohm_explain can tell at least; 0 where it isn't set */
@@ -85,6 +87,12 @@ int32_t bohm_explain(bohm *handle, uint64_t place, uint8_t *out, size_t out_len,
  * `bohm rows` does: a line that has begun and lines still to come don't count. A name that isn't UTF-8 is that of no table. The work is
  * that of all rows that are there. DONE, MEMORY (the run goes on), CLOSED, ROOM, NO_TABLE, WAITING. */
 int32_t bohm_rows(bohm *handle, const uint8_t *table, size_t table_len, uint8_t *out, size_t out_len, size_t *made);
+
+/* Writes to out who holds the kind that a word names, READ, INSERT, UPDATE or DELETE, on the table of a name, after the bohm_places() places so
+ * far, as `bohm holders` does. The work is a pass over all grants, and a path for each line. DONE, MEMORY (the run goes on), CLOSED, ROOM,
+ * NO_KIND, NO_TABLE, WAITING. */
+int32_t bohm_holders(bohm *handle, const uint8_t *kind, size_t kind_len, const uint8_t *table, size_t table_len, uint8_t *out,
+                     size_t out_len, size_t *made);
 
 /* Writes the English of a status to out, at most out_len bytes and no NUL, and returns how many bytes it has in all. */
 size_t bohm_status_text(int32_t status, uint8_t *out, size_t out_len);

@@ -49,6 +49,13 @@ static int32_t rows(bohm *b, const char *table, size_t room) {
     return bohm_rows(b, (const uint8_t *)table, strlen(table), out, room, &made);
 }
 
+static int32_t holders(bohm *b, const char *kind, const char *table, size_t room) {
+    memset(out, '#', sizeof out);
+    used = 0;
+    made = 99;
+    return bohm_holders(b, (const uint8_t *)kind, strlen(kind), (const uint8_t *)table, strlen(table), out, room, &made);
+}
+
 static void try_closed(bohm *b, const char *what) {
     expect(step(b, "a CREATE t 1\n", sizeof out) == BOHM_CLOSED && gave(0, ""), what);
     expect(finish(b) == BOHM_CLOSED && gave(0, ""), what);
@@ -56,6 +63,7 @@ static void try_closed(bohm *b, const char *what) {
     expect(bohm_set(b, BOHM_KEEP, 1) == BOHM_CLOSED, what);
     expect(explain(b, 0, sizeof out) == BOHM_CLOSED && gave(0, ""), what);
     expect(rows(b, "", sizeof out) == BOHM_CLOSED && gave(0, ""), what);
+    expect(holders(b, "READ", "t", sizeof out) == BOHM_CLOSED && gave(0, ""), what);
     bohm_close(b);
     expect(!b->is_open, what);
 }
@@ -153,11 +161,36 @@ static void try_rows(void) {
     bohm_close(&b);
 }
 
+static void try_holders(void) {
+    bohm b = BOHM_CLOSED_HANDLE;
+    expect(bohm_open(&b) == BOHM_DONE, "open");
+    expect(holders(&b, "READ", "t", sizeof out) == BOHM_NO_TABLE && gave(0, ""), "holders on a table of no line");
+    expect(holders(&b, "WRITE", "t", sizeof out) == BOHM_NO_KIND && gave(0, ""), "holders of no kind on a table of no line");
+    expect(step(&b, "a CREATE t 1\na GRANT READ t b OPTION\na GRANT INSERT t PUBLIC\nb GRANT READ t c", sizeof out) == BOHM_DONE, "step");
+    expect(holders(&b, "READ", "t", sizeof out) == BOHM_DONE && gave(0, "a owner\nb option grants 1\nb grants 1\n"), "holders where a line has begun");
+    size_t whole = made;
+    expect(holders(&b, "READ", "t", whole) == BOHM_DONE && made == whole, "as much room as is needed");
+    expect(holders(&b, "READ", "t", whole - 1) == BOHM_ROOM && made == whole && out[0] == '#', "too little room");
+    expect(holders(&b, "READ", "t", 0) == BOHM_ROOM && made == whole && out[0] == '#', "no room");
+    expect(holders(&b, "INSERT", "t", sizeof out) == BOHM_DONE && gave(0, "a owner\nPUBLIC grants 2\n"), "holders where PUBLIC is one");
+    expect(holders(&b, "UPDATE", "t", sizeof out) == BOHM_DONE && gave(0, "a owner\n"), "holders of UPDATE");
+    expect(holders(&b, "DELETE", "t", sizeof out) == BOHM_DONE && gave(0, "a owner\n"), "holders of DELETE");
+    const char *words[] = {"", "read", "READ,INSERT", "READS", "PUBLIC", "\xff"};
+    for (size_t at = 0; at < sizeof words / sizeof *words; at++)
+        expect(holders(&b, words[at], "t", sizeof out) == BOHM_NO_KIND && gave(0, ""), "what is no kind");
+    const char *names[] = {"", "T", "a", "tt", "\xff"};
+    for (size_t at = 0; at < sizeof names / sizeof *names; at++)
+        expect(holders(&b, "READ", names[at], sizeof out) == BOHM_NO_TABLE && gave(0, ""), "what is no table");
+    expect(finish(&b) == BOHM_DONE && holders(&b, "READ", "t", sizeof out) == BOHM_DONE, "holders after the end");
+    expect(gave(0, "a owner\nb option grants 1\nb grants 1\nc grants 1 3\n"), "holders after the end");
+    bohm_close(&b);
+}
+
 static void try_texts(void) {
     uint8_t none[64], text[64];
     size_t length = bohm_status_text(77, none, sizeof none);
     expect(bohm_status_text(-1, text, sizeof text) == length && memcmp(text, none, length) == 0, "the text of no status");
-    for (int32_t status = BOHM_DONE; status <= BOHM_WAITING; status++) {
+    for (int32_t status = BOHM_DONE; status <= BOHM_NO_KIND; status++) {
         size_t whole = bohm_status_text(status, text, sizeof text);
         expect(whole > 3 && (whole != length || memcmp(text, none, length) != 0), "the text of a status");
         memset(none + 32, '#', 32);
@@ -183,6 +216,8 @@ static void report_again(void) {
             if (status == BOHM_DONE) continue;
             status = bohm_rows(&b, input, 0, room, 0, &made);
             expect(status == BOHM_DONE || status == BOHM_ROOM || status == BOHM_WAITING, "rows when out of memory");
+            status = bohm_holders(&b, (const uint8_t *)"READ", 4, (const uint8_t *)"t", 1, room, 0, &made);
+            expect(status == BOHM_ROOM || status == BOHM_NO_TABLE || status == BOHM_WAITING, "holders when out of memory");
         }
     do {
         status = bohm_finish(&b, room, sizeof room, &made);
@@ -191,6 +226,9 @@ static void report_again(void) {
     } while (status == BOHM_MEMORY || made == sizeof room);
     while ((status = bohm_rows(&b, input, 0, room, 0, &made)) == BOHM_MEMORY) expect(made == 0, "rows when out of memory");
     expect(status == BOHM_DONE || (status == BOHM_ROOM && made > 0), "rows");
+    while ((status = bohm_holders(&b, (const uint8_t *)"READ", 4, (const uint8_t *)"t", 1, room, 0, &made)) == BOHM_MEMORY)
+        expect(made == 0, "holders when out of memory");
+    expect(status == BOHM_ROOM && made > 0, "holders");
     bohm_close(&b);
 }
 
@@ -211,26 +249,50 @@ static void explain_all(void) {
     bohm_close(&b);
 }
 
-/* Writes the rows at the end of a log: of all tables, or of one. */
-static void list_rows(const char *table) {
-    static uint8_t input[1 << 16], room[1 << 16];
+static uint8_t listed[1 << 16];
+
+/* Takes a log to its end. */
+static void take_all(bohm *b) {
+    static uint8_t input[1 << 16];
     size_t count;
-    bohm b = BOHM_CLOSED_HANDLE;
-    expect(bohm_open(&b) == BOHM_DONE, "open");
+    expect(bohm_open(b) == BOHM_DONE, "open");
     while ((count = fread(input, 1, sizeof input, stdin)) > 0)
         for (size_t at = 0; at < count; at += used)
-            expect(bohm_step(&b, input + at, count - at, room, sizeof room, &used, &made) == BOHM_DONE, "step");
-    expect(bohm_finish(&b, room, sizeof room, &made) == BOHM_DONE, "finish");
-    expect(bohm_rows(&b, (const uint8_t *)table, strlen(table), room, sizeof room, &made) == BOHM_DONE, "rows");
-    fwrite(room, 1, made, stdout);
+            expect(bohm_step(b, input + at, count - at, listed, sizeof listed, &used, &made) == BOHM_DONE, "step");
+    expect(bohm_finish(b, listed, sizeof listed, &made) == BOHM_DONE, "finish");
+}
+
+/* Writes the rows at the end of a log: of all tables, or of one. */
+static void list_rows(const char *table) {
+    bohm b = BOHM_CLOSED_HANDLE;
+    take_all(&b);
+    expect(bohm_rows(&b, (const uint8_t *)table, strlen(table), listed, sizeof listed, &made) == BOHM_DONE, "rows");
+    fwrite(listed, 1, made, stdout);
+    bohm_close(&b);
+}
+
+/* Writes who holds each kind on a table at the end of a log. */
+static void list_holders(const char *table) {
+    static const char *kinds[] = {"READ", "INSERT", "UPDATE", "DELETE"};
+    bohm b = BOHM_CLOSED_HANDLE;
+    take_all(&b);
+    for (size_t at = 0; at < sizeof kinds / sizeof *kinds; at++) {
+        const uint8_t *kind = (const uint8_t *)kinds[at], *name = (const uint8_t *)table;
+        expect(bohm_holders(&b, kind, strlen(kinds[at]), name, strlen(table), listed, sizeof listed, &made) == BOHM_DONE, "holders");
+        fwrite(listed, 1, made, stdout);
+    }
     bohm_close(&b);
 }
 
 /* trial again: a log on standard input to its report; trial explain: to the explanations of its places; trial rows [TABLE]: to the rows at
- * its end. trial: the rest. */
+ * its end; trial holders TABLE: to who holds each kind on a table there. trial: the rest. */
 int main(int argc, char **argv) {
     if (argc > 1 && strcmp(argv[1], "rows") == 0) {
         list_rows(argc > 2 ? argv[2] : "");
+        return fflush(stdout) != 0 || wrong;
+    }
+    if (argc > 2 && strcmp(argv[1], "holders") == 0) {
+        list_holders(argv[2]);
         return fflush(stdout) != 0 || wrong;
     }
     if (argc > 1 && strcmp(argv[1], "explain") == 0) {
@@ -244,6 +306,7 @@ int main(int argc, char **argv) {
     try_misuse();
     try_explanations();
     try_rows();
+    try_holders();
     try_texts();
     return wrong;
 }

@@ -1,3 +1,5 @@
+pub mod AskFaults
 pub mod Boxes
 pub mod Fronts
+pub mod NamedKinds
 pub mod Values

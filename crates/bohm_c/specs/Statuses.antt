@@ -39,6 +39,10 @@ ask_status AskFault.Waiting = pos 12
 abbrev pub IsAskStatus : ℤ → Type 0
 IsAskStatus status = (status ≡ pos 0) ⊎ (status ≡ pos 1) ⊎ (status ≡ pos 10) ⊎ (status ≡ pos 11) ⊎ (status ≡ pos 12)
 
+-- of one that says who holds a privilege: one of these, or no kind
+abbrev pub IsHoldersStatus : ℤ → Type 0
+IsHoldersStatus status = IsAskStatus status ⊎ (status ≡ pos 13)
+
 -- of one that isn't negative
 abbrev pub known_text : ℕ → List ℕ
 known_text status =
@@ -55,6 +59,7 @@ known_text status =
     if status == 10 then codes "too little room" else
     if status == 11 then codes "no such table" else
     if status == 12 then codes "lines wait to be run" else
+    if status == 13 then codes "no such kind" else
     codes "no such status"
 
 abbrev pub status_text : ℤ → List ℕ

@@ -6,9 +6,11 @@
 ghost use Rattle.std.specs.Prelude.{◌≡◌, ◌≤◌, ◌<◌, ◌+◌, ◌++◌, ◌↔◌, [], false, ℕ, List, None, Some, IfErr, IfOk, IfSome, IfNone, IsSome, IsUtf8, MatchOption, OnOk, drop, length, option_map, pos, take, true};
 ghost use Rattle.report.specs.Report.{IsReport};
 ghost use Rattle.audit_text.specs.RowsText.{HasNoTable};
-ghost use Rattle.fed_run.specs.Stands.{IsFed, IsGivenOut, IsUnfed, KeepsLast, TextExplains, TextLacksTable, TextListsRows, unsent};
-ghost use Rattle.bohm_c.specs.Asked.{asked_name};
-ghost use Rattle.bohm_c.specs.Statuses.{IsAskStatus, IsExplainStatus, IsSetStatus, IsStatus, ask_status, explain_status, status_number, status_text};
+ghost use Rattle.log_text.specs.Fault.{kind_named};
+ghost use Rattle.sequencer.specs.Names.{known_number};
+ghost use Rattle.fed_run.specs.Stands.{IsFed, IsGivenOut, IsUnfed, KeepsLast, TextExplains, TextLacksTable, TextListsHolders, TextListsRows, unsent};
+ghost use Rattle.bohm_c.specs.Asked.{TextListsAsked, asked_name};
+ghost use Rattle.bohm_c.specs.Statuses.{IsAskStatus, IsExplainStatus, IsHoldersStatus, IsSetStatus, IsStatus, ask_status, explain_status, status_number, status_text};
 
 mod handle;
 mod parts;
@@ -16,6 +18,8 @@ mod parts;
 use explain::ExplainFault;
 use fed_run::{AskFault, FedRun, FeedFault};
 pub use handle::Handle;
+use model_base::Kind;
+use privileges_text::kind_named;
 use std::alloc::Global;
 use std::boxed::Box;
 use std::mem::replace;
@@ -47,6 +51,8 @@ const ROOM: i32 = 10;
 const NO_TABLE: i32 = 11;
 /// Lines wait to be run.
 const WAITING: i32 = 12;
+/// The word names no kind.
+const NO_KIND: i32 = 13;
 
 /// The option that says how many of the last places `bohm_explain` can explain.
 const KEEP: u32 = 1;
@@ -390,6 +396,118 @@ pub extern "C" fn bohm_rows(
     status
 }
 
+/// The kind that a word names.
+fn asked_kind(word: &[u8]) -> Option<Kind>
+    ensures { result ≡ kind_named word.now }
+{
+    match std::str::from_utf8(word) {
+        Ok(word) => kind_named(word),
+        Err(_) => None,
+    }
+}
+
+/// Writes who holds a kind on the table of a name, as `bohm_holders`.
+fn write_holders(
+    alloc: Global,
+    run: &FedRun,
+    kind: Kind,
+    name: &str,
+    out: &mut [u8],
+    made: &mut usize,
+) -> i32
+    requires { made.old ≡ 0 }
+    ensures told { result ≡ DONE → TextListsHolders run.now kind name.now (take made.new out.new) × (made.new ≤ length out.old) }
+    ensures room { result ≡ ROOM → (length out.old < made.new)
+        × ((text : List ℕ) × (TextListsHolders run.now kind name.now text × (length text ≡ made.new))) }
+    ensures none { (result ≡ NO_TABLE) ↔ ((run.now.run.waiting.items ≡ [])
+        × (known_number run.now.run.engine.log.names.tables name.now ≡ None)) }
+    ensures lacks { result ≡ NO_TABLE → TextLacksTable run.now (Some name.now) }
+    ensures waiting { (result ≡ WAITING) ↔ (0 < length run.now.run.waiting.items) }
+    ensures status { IsAskStatus result }
+    ensures still { (result ≡ DONE → ⊥) → out.new ≡ out.old }
+    ensures made { (result ≡ DONE → ⊥) → (result ≡ ROOM → ⊥) → made.new ≡ 0 }
+{
+    let mut holders = Vec::new(alloc);
+    match run.holders(alloc, kind, name, &mut holders) {
+        Ok(()) => write_whole(&holders, out, made),
+        Err(fault) => ask_status(fault),
+    }
+}
+
+/// Writes who holds the kind that a word names, as `bohm_holders`.
+fn write_asked(
+    alloc: Global,
+    run: &FedRun,
+    kind: &[u8],
+    table: &[u8],
+    out: &mut [u8],
+    made: &mut usize,
+) -> i32
+    requires { made.old ≡ 0 }
+    ensures told { result ≡ DONE → TextListsAsked run.now kind.now table.now (take made.new out.new) × (made.new ≤ length out.old) }
+    ensures room { result ≡ ROOM → (length out.old < made.new)
+        × ((text : List ℕ) × (TextListsAsked run.now kind.now table.now text × (length text ≡ made.new))) }
+    ensures kind { (result ≡ NO_KIND) ↔ (kind_named kind.now ≡ None) }
+    ensures none { IsSome (kind_named kind.now) → IsUtf8 table.now → (result ≡ NO_TABLE) ↔ ((run.now.run.waiting.items ≡ [])
+        × (known_number run.now.run.engine.log.names.tables table.now ≡ None)) }
+    ensures lacks { result ≡ NO_TABLE → IsUtf8 table.now → TextLacksTable run.now (Some table.now) }
+    ensures foreign { IsSome (kind_named kind.now) → (IsUtf8 table.now → ⊥) → result ≡ NO_TABLE }
+    ensures waiting { IsSome (kind_named kind.now) → IsUtf8 table.now
+        → (result ≡ WAITING) ↔ (0 < length run.now.run.waiting.items) }
+    ensures status { IsHoldersStatus result }
+    ensures still { (result ≡ DONE → ⊥) → out.new ≡ out.old }
+    ensures made { (result ≡ DONE → ⊥) → (result ≡ ROOM → ⊥) → made.new ≡ 0 }
+{
+    let Some(kind) = asked_kind(kind) else {
+        return NO_KIND;
+    };
+    match std::str::from_utf8(table) {
+        Ok(name) => write_holders(alloc, run, kind, name, out, made),
+        Err(_) => NO_TABLE,
+    }
+}
+
+/// Writes to `out` who holds the kind that a word names on the table of a name after the reported places, as `FedRun::holders`.
+#[unsafe(no_mangle)]
+pub extern "C" fn bohm_holders(
+    alloc: Global,
+    handle: &mut Handle,
+    kind: &[u8],
+    table: &[u8],
+    out: &mut [u8],
+    made: &mut usize,
+) -> i32
+    // It is who holds the kind in each text that begins with what was taken.
+    ensures told { result ≡ DONE → IfSome handle.old.run (λ run. TextListsAsked run kind.now table.now (take made.new out.new)
+        × (made.new ≤ length out.old)) }
+    // Where there is too little room, it is given how much is needed.
+    ensures room { result ≡ ROOM → IfSome handle.old.run (λ run. (length out.old < made.new)
+        × ((text : List ℕ) × (TextListsAsked run kind.now table.now text × (length text ≡ made.new)))) }
+    // There is no kind exactly where the word names none.
+    ensures kind { IfSome handle.old.run (λ _. (result ≡ NO_KIND) ↔ (kind_named kind.now ≡ None)) }
+    // There is no table exactly where no reported statement creates one of the name.
+    ensures none { IfSome handle.old.run (λ run. IsSome (kind_named kind.now) → IsUtf8 table.now → (result ≡ NO_TABLE)
+        ↔ ((run.run.waiting.items ≡ []) × (known_number run.run.engine.log.names.tables table.now ≡ None))) }
+    ensures lacks { result ≡ NO_TABLE → IfSome handle.old.run (λ run. IsUtf8 table.now → TextLacksTable run (Some table.now)) }
+    // A name that isn't UTF-8 is that of no table.
+    ensures foreign { IfSome handle.old.run (λ _. IsSome (kind_named kind.now) → (IsUtf8 table.now → ⊥) → result ≡ NO_TABLE) }
+    ensures waiting { IfSome handle.old.run (λ run. IsSome (kind_named kind.now) → IsUtf8 table.now
+        → (result ≡ WAITING) ↔ (0 < length run.run.waiting.items)) }
+    ensures status { IfSome handle.old.run (λ _. IsHoldersStatus result) }
+    ensures same { handle.new.run ≡ handle.old.run }
+    ensures still { (result ≡ DONE → ⊥) → out.new ≡ out.old }
+    ensures made { (result ≡ DONE → ⊥) → (result ≡ ROOM → ⊥) → made.new ≡ 0 }
+    ensures closed { handle.old.run ≡ None → result ≡ CLOSED }
+{
+    *made = 0;
+    let Some(run) = take(alloc, handle) else {
+        return CLOSED;
+    };
+    let status = write_asked(alloc, &run, kind, table, out, made);
+    put(handle, run);
+    status
+}
+
 /// How many lines were reported, with a heading, which has no line of the report. 0 where the handle is closed.
 #[unsafe(no_mangle)]
 pub extern "C" fn bohm_lines(alloc: Global, handle: &mut Handle) -> u64
@@ -438,6 +556,7 @@ fn text_of(status: i32) -> &'static str
         ROOM => "too little room",
         NO_TABLE => "no such table",
         WAITING => "lines wait to be run",
+        NO_KIND => "no such kind",
         _ => "no such status",
     }
 }

@@ -1,10 +1,12 @@
--- The rows of a run that is fed are those of each text that begins with what was taken.
+-- The rows of a run that is fed, and who holds a privilege there, are those of each text that begins with what was taken.
 use Rattle.std.proofs.Common.{◌≡◌, ◌≤◌, ◌++◌, ◌∷◌, [], ℕ, List, Option, Some, ap, arith, length, refl, subst}
-use Rattle.std.specs.Prelude.{◌==◌, true}
+use Rattle.std.specs.Prelude.{◌==◌, None, true}
 use Rattle.log_text.proofs.Total.{total_in}
 use Rattle.log_text.specs.declared.version.Version.{Version}
 use Rattle.line_io.specs.Lines.{lines_of}
+use Rattle.model_base.specs.declared.deed.Kind.{Kind}
 use Rattle.sequencer.specs.Catalog.{no_names}
+use Rattle.sequencer.specs.Names.{known_number}
 use Rattle.report.specs.Report.{names_after}
 use Rattle.report.proofs.Readings.{readings_from}
 use Rattle.bohm_base.specs.Collecting.{places_in}
@@ -14,7 +16,8 @@ use Rattle.batched_text.proofs.Ends.{read_before}
 use Rattle.audit_text.specs.RowsBefore.{IsLogBefore}
 use Rattle.audit_text.specs.RowsText.{HasNoTable, ListsRows}
 use Rattle.audit_text.proofs.RowsRead.{front-of}
-use Rattle.fed_run.specs.Stands.{IsFed, MayCome, TextLacksTable, TextListsRows}
+use Rattle.privileges_text.specs.HoldersText.{ListsHolders}
+use Rattle.fed_run.specs.Stands.{IsFed, MayCome, TextLacksTable, TextListsHolders, TextListsRows}
 use Rattle.fed_run.specs.declared.fed.FedRun.{FedRun}
 
 -- no line waits where none are counted
@@ -60,3 +63,12 @@ module _ (run : FedRun) (none : run.run.waiting.items ≡ []) where
       run.run.engine.log,
       (log_before input written future stands may, subst (λ (r : Run). HasNoTable r.log.names.tables name) is lacks),
     )
+
+    pub fed_holders : (kind : Kind) (name text : List ℕ) → ListsHolders engine.log kind name text → TextListsHolders run kind name text
+    fed_holders kind name text holders = λ input written future stands may. (
+      run.run.engine.log,
+      (log_before input written future stands may, subst (λ (r : Run). ListsHolders r.log kind name text) is holders),
+    )
+
+    pub fed_names_none : (name : List ℕ) → known_number engine.log.names.tables name ≡ None → TextLacksTable run (Some name)
+    fed_names_none name lacks = fed_lacks (Some name) lacks

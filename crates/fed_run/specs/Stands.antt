@@ -5,6 +5,8 @@ use Rattle.line_io.specs.declared.limits.TheConstants.{KEPT_BYTES}
 use Rattle.report.specs.Report.{IsReport}
 use Rattle.audit_text.specs.Answer.{IsExplanation}
 use Rattle.audit_text.specs.RowsBefore.{IsRows, LacksTable}
+use Rattle.model_base.specs.declared.deed.Kind.{Kind}
+use Rattle.privileges_text.specs.Questions.{IsHolders}
 use Rattle.batched_text.specs.Batching.{IsBatched, next_line}
 use Rattle.batched_text.specs.declared.line_run.LineRun.{LineRun}
 use Rattle.fed_run.specs.declared.fed.FedRun.{FedRun}
@@ -66,6 +68,12 @@ TextExplains run place text = (input written future : List ℕ) → IsFed run in
 abbrev pub TextListsRows : FedRun → Option (List ℕ) → List ℕ → Type 0
 TextListsRows run name text = (input written future : List ℕ) → IsFed run input written → MayCome run future
     → IsRows (input ++ future) name (Some run.run.reported) text
+
+-- the text lists who holds the kind on the table of the name, whatever comes: after the reported places of each text that begins with what was
+-- taken
+abbrev pub TextListsHolders : FedRun → Kind → List ℕ → List ℕ → Type 0
+TextListsHolders run kind name text = (input written future : List ℕ) → IsFed run input written → MayCome run future
+    → IsHolders (input ++ future) kind name (Some run.run.reported) text
 
 -- no reported place of such a text creates a table of the name
 abbrev pub TextLacksTable : FedRun → Option (List ℕ) → Type 0

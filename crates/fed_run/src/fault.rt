@@ -78,7 +78,7 @@ impl fmt::Display for AskFault {
     }
 }
 
-/// The rows of a run are listed in memory: where the table is there, only that may run out.
+/// Rows and holders of a run are listed in memory: where the table is there, only that may run out.
 impl From<WorkFault> for AskFault {
     ghost from_gives = { λ fault e. e ≡ ask_fault_of fault };
 

@@ -1,12 +1,13 @@
 //! A run that is fed piece by piece.
 
-ghost use Rattle.std.specs.Prelude.{◌≡◌, ◌≤◌, ◌<◌, ◌+◌, ◌++◌, ◌^◌, ◌↔◌, ◌==◌, ℕ, [], List, Err, IfErr, IfOk, OnErr, OnOk, false, true, length, option_map, take};
+ghost use Rattle.std.specs.Prelude.{◌≡◌, ◌≤◌, ◌<◌, ◌+◌, ◌++◌, ◌^◌, ◌↔◌, ◌==◌, ℕ, [], List, Err, IfErr, IfOk, None, OnErr, OnOk, Some, false, true, length, option_map, take};
 ghost use Rattle.line_io.specs.declared.limits.TheConstants.{KEPT_BYTES};
 ghost use Rattle.report.specs.Report.{IsReport};
 ghost use Rattle.std.proofs.Props.{props};
 ghost use Rattle.engine.specs.Engine.{finished};
 ghost use Rattle.batched_text.specs.Batching.{IsSteady};
 ghost use Rattle.batched_text.specs.History.{last_places, plan_in_order};
+ghost use Rattle.sequencer.specs.Names.{known_number};
 ghost use Rattle.fed_run.specs.Kept.{kept-prop};
 
 use crate::fault::{AskFault, FeedFault};
@@ -17,7 +18,8 @@ use engine::Engine;
 use explain::{ExplainFault, explain, explanations_name_earlier_grants};
 use line_io::{KEPT_BYTES, cut_line};
 use log_text::LineBuffers;
-use model_base::{HashSeed, Place};
+use model_base::{HashSeed, Kind, Place};
+use privileges_text::put_holders;
 use std::alloc::{AllocError, Global};
 
 /// How far a call came.
@@ -52,7 +54,7 @@ impl FedRun {
     ghost use Rattle.bohm_base.specs.Collecting.{ReadsAs};
     ghost use Rattle.batched_text.specs.Batching.{HasRoomForLine, Takes, TakesNothing, next_line};
     ghost use Rattle.batched_text.specs.Foretold.{log_names};
-    ghost use Rattle.fed_run.specs.Stands.{Feeds, Gives, IsFed, IsGivenOut, IsUnfed, KeepsLast, TakesBytes, TextExplains, TextLacksTable, TextListsRows, unsent};
+    ghost use Rattle.fed_run.specs.Stands.{Feeds, Gives, IsFed, IsGivenOut, IsUnfed, KeepsLast, TakesBytes, TextExplains, TextLacksTable, TextListsHolders, TextListsRows, unsent};
     ghost use Rattle.audit_text.specs.RowsText.{HasNoTable};
 
     /// Before the first byte. It doesn't allocate.
@@ -95,7 +97,7 @@ impl FedRun {
         true
     }
 
-    /// Why the statement of a place was admitted or denied, as `audit_text::explain_text` writes it, appended to an empty text.
+    /// Why the statement of a place was admitted or denied, as `audit_text::explain_places` writes it unchecked, appended to an empty text.
     /// `NoSuchPlace` is returned exactly where no such place was reported yet. At least the last places can be explained, as many as are to
     /// be kept: of others `Forgotten` may be returned. `NoMemory` means out of memory; some of it may be in the text then.
     pub fn explain(
@@ -156,6 +158,30 @@ impl FedRun {
     {
         let engine = self.engine_run()?;
         put_rows_there(alloc, text, engine, name)?;
+        Ok(())
+    }
+
+    /// Who holds a kind on the table of a name after the reported places, as `privileges_text::holders_text` writes it, appended to an empty text.
+    /// After `NoMemory` some of it may be in the text.
+    pub fn holders(
+        &self,
+        alloc: Global,
+        kind: Kind,
+        name: &str,
+        text: &mut Vec<u8>,
+    ) -> Result<(), AskFault>
+        requires { text.old.items ≡ [] }
+        // It is who holds the kind in each text that begins with what was taken.
+        ensures told { OnOk result (TextListsHolders self.now kind name.now text.new.items) }
+        // NoSuchTable comes exactly where no reported statement creates a table of the name.
+        ensures none { (result ≡ Err AskFault.NoSuchTable) ↔ ((self.now.run.waiting.items ≡ [])
+            × (known_number self.now.run.engine.log.names.tables name.now ≡ None)) }
+        ensures lacks { result ≡ Err AskFault.NoSuchTable → TextLacksTable self.now (Some name.now) }
+        // Lines wait only where a call of `step` or `finish` ended in a fault.
+        ensures waiting { (result ≡ Err AskFault.Waiting) ↔ (0 < length self.now.run.waiting.items) }
+    {
+        let engine = self.engine_run()?;
+        put_holders(alloc, text, engine, kind, name)?;
         Ok(())
     }
 

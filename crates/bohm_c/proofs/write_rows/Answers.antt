@@ -1,18 +1,12 @@
-use Rattle.std.proofs.Common.{◌≡◌, ◌∙◌, ℕ, List, Option, Err, ap, arith, inl, inr, length, refl, rules, subst, sym, take}
+use Rattle.std.proofs.Common.{◌≡◌, ◌∙◌, ℕ, List, Option, Err, ap, arith, inl, inr, length, rules, subst, sym, take}
 use Rattle.std.specs.Prelude.{pos}
 use Rattle.std.proofs.lemmas.Bool.{cases_lt}
 use Rattle.fed_run.specs.Stands.{TextLacksTable, TextListsRows}
-use Rattle.fed_run.specs.declared.fault.AskFault.{AskFault}
 use Rattle.bohm_c.specs.Asked.{asked_name}
 use Rattle.bohm_c.specs.Statuses.{ask_status}
 use Rattle.bohm_c.specs.declared.TheConstants.{DONE, ROOM}
+use Rattle.bohm_c.proofs.AskFaults.{no_table}
 use Rattle.bohm_c.proofs.write_rows.Goals as goal
-
--- the status of no table has one fault
-no_table : (fault : AskFault) → ask_status fault ≡ pos 11 → fault ≡ AskFault.NoSuchTable
-no_table AskFault.NoMemory is = cc
-no_table AskFault.NoSuchTable is = refl
-no_table AskFault.Waiting is = cc
 
 pub returns-in-Ok-rows-clause-told : goal.returns-in-Ok-rows-clause-told
 returns-in-Ok-rows-clause-told c = λ is.
