@@ -1,3 +1,5 @@
 pub mod Told
 pub mod Named
 pub mod Joined
+pub mod Listing
+pub mod Telling

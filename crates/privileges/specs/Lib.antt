@@ -1,3 +1,4 @@
 pub mod Holders
 pub mod Spans
 pub mod Joining
+pub mod Checks

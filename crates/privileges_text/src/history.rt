@@ -1,6 +1,6 @@
 //! When a user held a privilege, as text.
 
-ghost use Rattle.std.specs.Prelude.{◌≡◌, ◌<◌, ◌++◌, ◌⊎◌, [], All, IfErr, List, OnOk, None, false, true, length, ℕ};
+ghost use Rattle.std.specs.Prelude.{◌≡◌, ◌<◌, ◌++◌, ◌⊎◌, [], All, IfErr, IfOk, List, OnOk, None, false, true, length, ℕ};
 ghost use Rattle.std.specs.List.{flat_map};
 ghost use Rattle.line_io.specs.declared.fault.EngineFault.{EngineFault};
 ghost use Rattle.model_base.specs.Outcomes.{owners};
@@ -12,6 +12,7 @@ ghost use Rattle.privileges.specs.declared.spanning.Span.{Span};
 ghost use Rattle.privileges_text.specs.HistoryText.{TellsHistory, TellsHistoryOf, TellsOwner, TellsSpans, owner_since_text, span_range_text, span_text, spans_text, to_text};
 
 use crate::asking::HistoryAsked;
+use crate::checking::{accepts_spans, put_checked};
 use crate::running::{book_of, owner_of, table_named, user_named};
 use crate::ways::{UserNeed, put_ending};
 use audit_text::{WorkFault, put_place};
@@ -40,18 +41,19 @@ fn put_range(text: &mut Vec<u8>, span: &Span) -> Result<(), AllocError>
     put_to(text, span.to)
 }
 
-/// Appends the line of a span.
+/// Appends the line of a span. Returns whether the check of chains accepts it.
 fn put_span(
     alloc: Global,
     text: &mut Vec<u8>,
     engine: &Engine,
     of: &UserNeed,
     span: &Span,
-) -> Result<(), AllocError>
+) -> Result<bool, AllocError>
     requires all { finished engine.now ≡ length engine.now.log.statements }
     requires covered { of.now.need.table < length engine.now.log.names.tables }
     requires begun { span.now.from < length engine.now.log.statements }
-    ensures { OnOk result (text.new.items ≡ text.old.items ++ span_text engine.now.log of.now span.now) }
+    ensures text { OnOk result (text.new.items ≡ text.old.items ++ span_text engine.now.log of.now span.now) }
+    ensures accepted { IfOk result (λ is_accepted. is_accepted ≡ true) }
 {
     let _len = engine.log().len();
     let place = span.from + 1;
@@ -59,59 +61,68 @@ fn put_span(
     put_ending(alloc, text, engine, place, of)
 }
 
-/// Appends the lines of the spans.
+/// Appends the lines of the spans. Returns whether the check of chains accepts each.
 fn put_each(
     alloc: Global,
     text: &mut Vec<u8>,
     engine: &Engine,
     of: &UserNeed,
     spans: &[Span],
-) -> Result<(), AllocError>
+) -> Result<bool, AllocError>
     requires all { finished engine.now ≡ length engine.now.log.statements }
     requires covered { of.now.need.table < length engine.now.log.names.tables }
     requires begun { All (λ (span : Span). span.from < length engine.now.log.statements) spans.now }
-    ensures { OnOk result (text.new.items ≡ text.old.items ++ flat_map (span_text engine.now.log of.now) spans.now) }
+    ensures text { OnOk result (text.new.items ≡ text.old.items ++ flat_map (span_text engine.now.log of.now) spans.now) }
+    ensures accepted { IfOk result (λ is_accepted. is_accepted ≡ true) }
 {
+    let mut are_accepted = true;
     for span in spans {
-        put_span(alloc, text, engine, of, span)?;
+        are_accepted &= put_span(alloc, text, engine, of, span)?;
     }
-    Ok(())
+    Ok(are_accepted)
 }
 
-/// Appends the lines of the spans, or that there are none.
+/// Appends the lines of the spans, or that there are none, and returns the same.
 fn put_lines(
     alloc: Global,
     text: &mut Vec<u8>,
     engine: &Engine,
     of: &UserNeed,
     spans: &[Span],
-) -> Result<(), AllocError>
+) -> Result<bool, AllocError>
     requires all { finished engine.now ≡ length engine.now.log.statements }
     requires covered { of.now.need.table < length engine.now.log.names.tables }
     requires begun { All (λ (span : Span). span.from < length engine.now.log.statements) spans.now }
-    ensures { OnOk result (text.new.items ≡ text.old.items ++ spans_text engine.now.log of.now spans.now) }
+    ensures text { OnOk result (text.new.items ≡ text.old.items ++ spans_text engine.now.log of.now spans.now) }
+    ensures accepted { IfOk result (λ is_accepted. is_accepted ≡ true) }
 {
     if spans.is_empty() {
-        return text.extend_from_slice(b"never\n");
+        text.extend_from_slice(b"never\n")?;
+        return Ok(true);
     }
     put_each(alloc, text, engine, of, spans)
 }
 
-/// Writes the spans of a user who doesn't own the table into an empty text.
+/// Writes the spans of a user who doesn't own the table into an empty text, checked where that is asked for.
 fn put_spans(
     alloc: Global,
     text: &mut Vec<u8>,
     engine: &Engine,
     of: &UserNeed,
+    is_checked: bool,
 ) -> Result<(), AllocError>
     requires all { finished engine.now ≡ length engine.now.log.statements }
     requires covered { of.now.need.table < length engine.now.log.names.tables }
     requires other { owns (owners engine.now.log.statements) of.now.user of.now.need.table ≡ false }
     requires empty { text.old.items ≡ [] }
-    ensures { OnOk result (TellsSpans engine.now.log of.now text.new.items) }
+    ensures { OnOk result (TellsSpans engine.now.log of.now is_checked text.new.items) }
 {
     let found = spans(alloc, book_of(engine), of.user, &of.need)?;
-    put_lines(alloc, text, engine, of, &found)
+    let are_accepted = put_lines(alloc, text, engine, of, &found)?;
+    if !is_checked {
+        return Ok(());
+    }
+    put_checked(text, are_accepted && accepts_spans(engine, of, &found))
 }
 
 /// Writes the line of the table's owner.
@@ -123,33 +134,44 @@ fn put_owner_line(text: &mut Vec<u8>, place: Place) -> Result<(), AllocError>
     text.extend_from_slice(b"\n")
 }
 
-/// Writes the line of the user's own table into an empty text.
-fn put_own(text: &mut Vec<u8>, engine: &Engine, of: &UserNeed) -> Result<(), AllocError>
+/// Writes the line of the user's own table into an empty text, checked where that is asked for.
+fn put_own(
+    text: &mut Vec<u8>,
+    engine: &Engine,
+    of: &UserNeed,
+    is_checked: bool,
+) -> Result<(), AllocError>
     requires all { finished engine.now ≡ length engine.now.log.statements }
     requires covered { of.now.need.table < length engine.now.log.names.tables }
+    requires own { owns (owners engine.now.log.statements) of.now.user of.now.need.table ≡ true }
     requires empty { text.old.items ≡ [] }
-    ensures { OnOk result (TellsOwner engine.now.log of.now text.new.items) }
+    ensures { OnOk result (TellsOwner engine.now.log of.now is_checked text.new.items) }
 {
     let creation = book_of(engine).tables()[of.need.table.0 as usize];
-    put_owner_line(text, creation.place)
+    put_owner_line(text, creation.place)?;
+    if !is_checked {
+        return Ok(());
+    }
+    put_checked(text, owns(engine, of))
 }
 
-/// Writes when the user held what is needed, by a log that is run, into an empty text.
+/// Writes when the user held what is needed, by a log that is run, into an empty text, checked where that is asked for.
 fn put_history_of(
     alloc: Global,
     text: &mut Vec<u8>,
     engine: &Engine,
     of: &UserNeed,
+    is_checked: bool,
 ) -> Result<(), AllocError>
     requires all { finished engine.now ≡ length engine.now.log.statements }
     requires covered { of.now.need.table < length engine.now.log.names.tables }
     requires empty { text.old.items ≡ [] }
-    ensures { OnOk result (TellsHistoryOf engine.now.log of.now text.new.items) }
+    ensures { OnOk result (TellsHistoryOf engine.now.log of.now is_checked text.new.items) }
 {
     if owns(engine, of) {
-        put_own(text, engine, of)
+        put_own(text, engine, of, is_checked)
     } else {
-        put_spans(alloc, text, engine, of)
+        put_spans(alloc, text, engine, of, is_checked)
     }
 }
 
@@ -171,7 +193,7 @@ pub(crate) fn put_history(
     requires all { finished engine.now ≡ length engine.now.log.statements }
     requires empty { text.old.items ≡ [] }
     ensures history { OnOk result (TellsHistory engine.now.log asked.now.user.now asked.now.kind asked.now.table.now asked.now.option
-        text.new.items) }
+        asked.now.is_checked text.new.items) }
     ensures none { IfErr result (λ fault. (fault ≡ WorkFault.Run EngineFault.NoMemory)
         ⊎ (((fault ≡ WorkFault.NoSuchUser) × (known_number engine.now.log.names.users asked.now.user.now ≡ None))
         ⊎ ((fault ≡ WorkFault.NoSuchTable) × (known_number engine.now.log.names.tables asked.now.table.now ≡ None)))) }
@@ -183,6 +205,12 @@ pub(crate) fn put_history(
         kind: asked.kind,
         option: asked.option,
     };
-    put_history_of(alloc, text, engine, &UserNeed { user, need })?;
+    put_history_of(
+        alloc,
+        text,
+        engine,
+        &UserNeed { user, need },
+        asked.is_checked,
+    )?;
     Ok(())
 }
