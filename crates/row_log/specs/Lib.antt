@@ -1,0 +1,4 @@
+pub mod MakingLog
+pub mod RowLines
+pub mod RowLog
+pub mod Replaying
