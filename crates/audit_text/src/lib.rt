@@ -31,5 +31,5 @@ pub use listing::{rows_text, run_before};
 pub use picturing::grants_text;
 pub use places::{PlacesAsked, explain_places};
 pub use question::Question;
-pub use rows::{put_rows_there, table_named};
+pub use rows::put_rows_there;
 pub use writing::write_text;

@@ -61,7 +61,7 @@ fn put_rows(
 }
 
 /// The table of a name, if one is asked for. An error where no table has the name.
-pub fn table_named(tables: &NameTable, name: Option<&str>) -> Result<Option<Table>, WorkFault>
+fn table_named(tables: &NameTable, name: Option<&str>) -> Result<Option<Table>, WorkFault>
     ensures named { IfOk result (λ table. IsTableNamed tables.now (option_map (λ name. name.now) name.entry) table) }
     ensures there { OnOk result (HasNoTable tables.now (option_map (λ name. name.now) name.entry) → ⊥) }
     ensures none { IfErr result (λ fault. (fault ≡ WorkFault.NoSuchTable)

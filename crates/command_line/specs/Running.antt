@@ -40,9 +40,8 @@ AnswersCommand (Command.Explain source places checked) input text = AreExplanati
 AnswersCommand (Command.Denials source checked) input text = AreDenials input checked text
 AnswersCommand (Command.Grants source limit) input text = IsPicture input (place_named limit) text
 AnswersCommand (Command.Rows source which) input text = IsRows input (rows_named which).0 (place_named which.limit) text
-AnswersCommand (Command.Holders source which) input text = IsHolders input which.kind which.table.now which.limit which.is_checked text
-AnswersCommand (Command.History source which) input text =
-    IsHistory input which.user.now which.kind which.table.now which.option which.is_checked text
+AnswersCommand (Command.Holders source which) input text = IsHolders input which.kind which.table.now which.limit text
+AnswersCommand (Command.History source which) input text = IsHistory input which.user.now which.kind which.table.now which.option text
 AnswersCommand (Command.Summary source) input text = IsSummary input text
 
 -- the log hasn't what a command asks for, as a fault says

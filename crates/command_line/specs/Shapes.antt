@@ -57,19 +57,18 @@ limit_rule = record (new_rule (codes "PLACE")) { parser = Some (vp.Unsigned 0 MO
 abbrev pub rows_app : App
 rows_app = with_rule (with_rule (over_file (codes "rows")) (new_rule (codes "TABLE"))) limit_rule
 
--- `holders` has to have FILE, KIND and TABLE, and may have PLACE and a flag of its own
+-- `holders` has to have FILE, KIND and TABLE, and may have PLACE
 abbrev pub holders_app : App
 holders_app =
     let holders = with_rule (over_file (codes "holders")) (required_rule (codes "KIND")) in
-    let holders = with_rule (with_rule holders (required_rule (codes "TABLE"))) limit_rule in
-    with_rule holders (flag_rule (codes "check"))
+    with_rule (with_rule holders (required_rule (codes "TABLE"))) limit_rule
 
--- `history` has to have FILE, USER, KIND and TABLE, and may have OPTION and the same flag
+-- `history` has to have FILE, USER, KIND and TABLE, and may have OPTION
 abbrev pub history_app : App
 history_app =
     let history = with_rule (over_file (codes "history")) (required_rule (codes "USER")) in
     let history = with_rule (with_rule history (required_rule (codes "KIND"))) (required_rule (codes "TABLE")) in
-    with_rule (with_rule history (new_rule (codes "OPTION"))) (flag_rule (codes "check"))
+    with_rule history (new_rule (codes "OPTION"))
 
 -- a log is run, by the executor or the reference executor, or for the counts of its report
 abbrev pub with_runs : App → App

@@ -35,9 +35,8 @@ AnswersTask (Task.Explain which) input text = AreExplanations input which.places
 AnswersTask (Task.Denials checked) input text = AreDenials input checked text
 AnswersTask (Task.Picture limit) input text = IsPicture input (place_named limit) text
 AnswersTask (Task.List which) input text = IsRows input (rows_named which).0 (place_named which.limit) text
-AnswersTask (Task.Holders which) input text = IsHolders input which.kind which.table.now which.limit which.is_checked text
-AnswersTask (Task.History which) input text =
-    IsHistory input which.user.now which.kind which.table.now which.option which.is_checked text
+AnswersTask (Task.Holders which) input text = IsHolders input which.kind which.table.now which.limit text
+AnswersTask (Task.History which) input text = IsHistory input which.user.now which.kind which.table.now which.option text
 AnswersTask Task.Summary input text = IsSummary input text
 
 -- a fault says that something isn't there that was asked for

@@ -111,8 +111,8 @@ pub data Asked : Type 0 where
   denials : Option Text → Bool → Asked
   grants : Option Text → Limit → Asked
   rows : Option Text → Option Text × Limit → Asked
-  holders : Option Text → Kind × Text × Option ℕ × Bool → Asked
-  history : Option Text → Text × Kind × Text × Bool × Bool → Asked
+  holders : Option Text → Kind × Text × Option ℕ → Asked
+  history : Option Text → Text × Kind × Text × Bool → Asked
   summary : Option Text → Asked
 
 -- what `explain` asks for: the explanations of one place or more, or of those that were denied, and not both

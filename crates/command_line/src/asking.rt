@@ -4,7 +4,7 @@ ghost use Rattle.std.specs.Prelude.{◌≡◌, codes, option_map};
 ghost use Rattle.clap.specs.Words.{first_of, found_of, rows_of};
 ghost use Rattle.command_line.specs.Privileges.{history_among, history_named, holders_among, holders_named, kind_among, option_told};
 
-use crate::options::{has_flag, limit_of};
+use crate::options::limit_of;
 use clap::ArgMatches;
 use model_base::{Kind, MOST_PLACES};
 use privileges_text::{HistoryAsked, HoldersAsked, kind_named};
@@ -34,7 +34,7 @@ fn option_told(word: Option<&str>) -> Option<bool>
     }
 }
 
-/// What the words of `holders` ask for, if KIND is one and their place is within the limits; with `--check`, that it is checked.
+/// What the words of `holders` ask for, if KIND is one and their place is within the limits.
 pub(crate) fn holders_asked<'a>(found: &ArgMatches<'a>) -> Option<HoldersAsked<'a>>
     ensures { option_map holders_named result ≡ holders_among (rows_of (found_of found.now)) }
 {
@@ -45,11 +45,10 @@ pub(crate) fn holders_asked<'a>(found: &ArgMatches<'a>) -> Option<HoldersAsked<'
         kind,
         table,
         limit: limit.place(),
-        is_checked: has_flag(found, "check"),
     })
 }
 
-/// What the words of `history` ask for, if KIND is one and the last word, if there is one, OPTION; with `--check`, that it is checked.
+/// What the words of `history` ask for, if KIND is one and the last word, if there is one, OPTION.
 pub(crate) fn history_asked<'a>(found: &ArgMatches<'a>) -> Option<HistoryAsked<'a>>
     ensures { option_map history_named result ≡ history_among (rows_of (found_of found.now)) }
 {
@@ -62,6 +61,5 @@ pub(crate) fn history_asked<'a>(found: &ArgMatches<'a>) -> Option<HistoryAsked<'
         kind,
         table,
         option,
-        is_checked: has_flag(found, "check"),
     })
 }

@@ -212,18 +212,6 @@ fn with_option<'a>(alloc: Global, command: Command<'a>) -> Result<Command<'a>, A
     command.arg(option)
 }
 
-/// Adds the flag `--check` to a command's description.
-fn with_check<'a>(alloc: Global, command: Command<'a>) -> Result<Command<'a>, AllocError>
-    ensures { IfOk result (λ c. app_of c ≡ with_rule (app_of command.entry) (flag_rule (codes "check"))) }
-{
-    with_flag(
-        alloc,
-        command,
-        "check",
-        "Checks the answer, and prints a last line 'checked' where it is right",
-    )
-}
-
 /// The description of `holders`, but for the flags for progress.
 fn describe_holders<'a>(alloc: Global) -> Result<Command<'a>, AllocError>
     ensures { IfOk result (λ c. app_of c ≡ holders_app) }
@@ -234,8 +222,7 @@ fn describe_holders<'a>(alloc: Global) -> Result<Command<'a>, AllocError>
         "Writes who holds a privilege before a place, and by which grants",
     )?;
     let holders = with_privilege(alloc, holders)?;
-    let holders = with_holders_limit(alloc, holders)?;
-    with_check(alloc, holders)
+    with_holders_limit(alloc, holders)
 }
 
 /// The description of `history`, but for the flags for progress.
@@ -249,8 +236,7 @@ fn describe_history<'a>(alloc: Global) -> Result<Command<'a>, AllocError>
     )?;
     let history = with_word(alloc, history, "USER", "The user who held it")?;
     let history = with_privilege(alloc, history)?;
-    let history = with_option(alloc, history)?;
-    with_check(alloc, history)
+    with_option(alloc, history)
 }
 
 /// The description of `rows`, but for the flags for progress.

@@ -1,6 +1,6 @@
 -- The rows of a run that is fed, and who holds a privilege there, are those of each text that begins with what was taken.
 use Rattle.std.proofs.Common.{◌≡◌, ◌≤◌, ◌++◌, ◌∷◌, [], ℕ, List, Option, Some, ap, arith, length, refl, subst}
-use Rattle.std.specs.Prelude.{◌==◌, None, false, true}
+use Rattle.std.specs.Prelude.{◌==◌, None, true}
 use Rattle.log_text.proofs.Total.{total_in}
 use Rattle.log_text.specs.declared.version.Version.{Version}
 use Rattle.line_io.specs.Lines.{lines_of}
@@ -64,10 +64,10 @@ module _ (run : FedRun) (none : run.run.waiting.items ≡ []) where
       (log_before input written future stands may, subst (λ (r : Run). HasNoTable r.log.names.tables name) is lacks),
     )
 
-    pub fed_holders : (kind : Kind) (name text : List ℕ) → ListsHolders engine.log kind name false text → TextListsHolders run kind name text
+    pub fed_holders : (kind : Kind) (name text : List ℕ) → ListsHolders engine.log kind name text → TextListsHolders run kind name text
     fed_holders kind name text holders = λ input written future stands may. (
       run.run.engine.log,
-      (log_before input written future stands may, subst (λ (r : Run). ListsHolders r.log kind name false text) is holders),
+      (log_before input written future stands may, subst (λ (r : Run). ListsHolders r.log kind name text) is holders),
     )
 
     pub fed_names_none : (name : List ℕ) → known_number engine.log.names.tables name ≡ None → TextLacksTable run (Some name)

@@ -73,7 +73,7 @@ TextListsRows run name text = (input written future : List ℕ) → IsFed run in
 -- taken
 abbrev pub TextListsHolders : FedRun → Kind → List ℕ → List ℕ → Type 0
 TextListsHolders run kind name text = (input written future : List ℕ) → IsFed run input written → MayCome run future
-    → IsHolders (input ++ future) kind name (Some run.run.reported) false text
+    → IsHolders (input ++ future) kind name (Some run.run.reported) text
 
 -- no reported place of such a text creates a table of the name
 abbrev pub TextLacksTable : FedRun → Option (List ℕ) → Type 0

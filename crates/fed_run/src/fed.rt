@@ -19,7 +19,7 @@ use explain::{ExplainFault, explain, explanations_name_earlier_grants};
 use line_io::{KEPT_BYTES, cut_line};
 use log_text::LineBuffers;
 use model_base::{HashSeed, Kind, Place};
-use privileges_text::{HoldersAsked, put_holders};
+use privileges_text::put_holders;
 use std::alloc::{AllocError, Global};
 
 /// How far a call came.
@@ -181,13 +181,7 @@ impl FedRun {
         ensures waiting { (result ≡ Err AskFault.Waiting) ↔ (0 < length self.now.run.waiting.items) }
     {
         let engine = self.engine_run()?;
-        let asked = HoldersAsked {
-            kind,
-            table: name,
-            limit: None,
-            is_checked: false,
-        };
-        put_holders(alloc, text, engine, &asked)?;
+        put_holders(alloc, text, engine, kind, name)?;
         Ok(())
     }
 

@@ -22,7 +22,7 @@ use Rattle.privileges.specs.Holders.{AreHolders, gives_by_name, is_holder}
 use Rattle.privileges.proofs.Told.{any_kept, owns_at}
 
 -- the test and the fact that a number is among some
-pub one_contains : (numbers : List ℕ) (number : ℕ) → is_one_of numbers number ≡ true → Contains numbers number
+one_contains : (numbers : List ℕ) (number : ℕ) → is_one_of numbers number ≡ true → Contains numbers number
 one_contains [] number is = absurd (cc)
 one_contains (first ∷ numbers) number is =
     by_cases (first == number)
@@ -32,7 +32,7 @@ one_contains (first ∷ numbers) number is =
     let found = one_contains numbers number later in
     (suc found.0, omega (arith, found.1), found.2))
 
-pub contains_one : (numbers : List ℕ) (number : ℕ) → Contains numbers number → is_one_of numbers number ≡ true
+contains_one : (numbers : List ℕ) (number : ℕ) → Contains numbers number → is_one_of numbers number ≡ true
 contains_one [] number (k, less, is) = absurd (omega arith)
 contains_one (first ∷ numbers) number (zero, less, is) = rw (eq-eqb first number is) refl
 contains_one (first ∷ numbers) number (suc k, less, is) = or_later (first == number) (is_one_of numbers number) (contains_one numbers number (k, omega arith, is))

@@ -1,4 +1,3 @@
 pub mod Holders
 pub mod Spans
 pub mod Joining
-pub mod Checks

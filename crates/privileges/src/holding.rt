@@ -18,7 +18,7 @@ use std::alloc::{AllocError, Global};
 use std::collections::BTreeSet;
 
 /// The user to whom the grant of the record, in force before the place, gives what is needed by name.
-pub(crate) fn holder_by(entry: &Record, place: Place, need: &Need) -> Option<User>
+fn holder_by(entry: &Record, place: Place, need: &Need) -> Option<User>
     ensures { (user : ℕ) → option_map_or (λ holder. holder == user) result false
         ≡ (is_in_force_at place entry.now && gives_by_name entry.now.grant user need.now) }
 {
@@ -61,7 +61,7 @@ fn listed(alloc: Global, mut users: BTreeSet<User>) -> Result<Vec<User>, AllocEr
 }
 
 /// Who owns the table.
-pub(crate) fn owner_of(book: &Book, table: Table) -> User
+fn owner_of(book: &Book, table: Table) -> User
     requires covered { table < length book.now.tables }
     ensures { slice_get (owners_of book.now.tables) table ≡ Some result }
 {

@@ -4,17 +4,14 @@
 //! to all; with the table's owner these are all who hold it (`holders_are_all`). `spans` lists when a user held a need;
 //! by `spans_tell_of_logs` a place of a log lies in one exactly if its need was held there.
 //!
-//! Each goes once through the records of a book, and sorts at most the grantees. `are_holders` and `are_spans` judge given
-//! answers and search for nothing: they go through the records for each user, or each grant and span.
+//! Each goes once through the records of a book, and sorts at most the grantees.
 #![tactic(auto)]
 
 mod holding;
 mod in_force;
-mod judging;
 mod laws;
 mod spanning;
 
 pub use holding::{holders, is_given_to_all};
-pub use judging::{are_holders, are_spans};
 pub use laws::{holders_are_all, spans_tell_of_logs};
 pub use spanning::{Span, spans};

@@ -22,7 +22,7 @@ pub struct Span {
 }
 
 /// The span in which the grant of the record was in force.
-pub(crate) fn span_of(entry: &Record) -> Span
+fn span_of(entry: &Record) -> Span
     ensures { result ≡ span_of entry.now }
 {
     Span {

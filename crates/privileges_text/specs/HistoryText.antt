@@ -12,7 +12,7 @@ use Rattle.sequencer.specs.Names.{known_number}
 use Rattle.privileges.specs.Spans.{AreSpans}
 use Rattle.privileges.specs.declared.spanning.Span.{Span}
 use Rattle.privileges_text.specs.declared.ways.UserNeed.{UserNeed}
-use Rattle.privileges_text.specs.Ways.{checked_text, way_ending}
+use Rattle.privileges_text.specs.Ways.{way_ending}
 
 -- the place that ended a span, if one did
 abbrev pub to_text : Option ℕ → List ℕ
@@ -36,32 +36,29 @@ spans_text log of (span ∷ spans) = flat_map (span_text log of) (span ∷ spans
 abbrev pub owner_since_text : ℕ → List ℕ
 owner_since_text place = codes "owner from " ++ decimal place ++ codes "\n"
 
--- the text has the place at which the user's own table was created, by a book of all that the log's deeds made and ended, and last `checked`
--- where a check is asked for
-pub record TellsOwner (log : Accepted) (of : UserNeed) (checked : Bool) (text : List ℕ) : Type 0 where
+-- the text has the place at which the user's own table was created, by a book of all that the log's deeds made and ended
+pub record TellsOwner (log : Accepted) (of : UserNeed) (text : List ℕ) : Type 0 where
   pub book : Entries
   pub shows : ShowsBook book (owners log.statements) (deeds_before log.statements (length log.statements))
   pub creation : Creation
   pub created : slice_get book.tables of.need.table ≡ Some creation
-  pub told : text ≡ owner_since_text creation.place ++ checked_text checked
+  pub told : text ≡ owner_since_text creation.place
 
--- the text has a line for each span in which the user held what is needed, in order, or says that this never was, and last `checked` where a
--- check is asked for
-pub record TellsSpans (log : Accepted) (of : UserNeed) (checked : Bool) (text : List ℕ) : Type 0 where
+-- the text has a line for each span in which the user held what is needed, in order, or says that this never was
+pub record TellsSpans (log : Accepted) (of : UserNeed) (text : List ℕ) : Type 0 where
   pub spans : List Span
   pub all : AreSpans (owners log.statements) (deeds_before log.statements (length log.statements)) of.user of.need spans
-  pub told : text ≡ spans_text log of spans ++ checked_text checked
+  pub told : text ≡ spans_text log of spans
 
 -- the history of a need: of the table's owner, or of another user
-abbrev pub TellsHistoryOf : Accepted → UserNeed → Bool → List ℕ → Type 0
-TellsHistoryOf log of checked text =
-    MatchBool (owns (owners log.statements) of.user of.need.table) (TellsOwner log of checked text) (TellsSpans log of checked text)
+abbrev pub TellsHistoryOf : Accepted → UserNeed → List ℕ → Type 0
+TellsHistoryOf log of text =
+    MatchBool (owns (owners log.statements) of.user of.need.table) (TellsOwner log of text) (TellsSpans log of text)
 
 -- so it is for a user and a table of these names
-pub record TellsHistory (log : Accepted) (user : List ℕ) (kind : Kind) (name : List ℕ) (option checked : Bool)
-    (text : List ℕ) : Type 0 where
+pub record TellsHistory (log : Accepted) (user : List ℕ) (kind : Kind) (name : List ℕ) (option : Bool) (text : List ℕ) : Type 0 where
   pub number : ℕ
   pub known : known_number log.names.users user ≡ Some number
   pub table : ℕ
   pub named : known_number log.names.tables name ≡ Some table
-  pub history : TellsHistoryOf log (record { user = number; need = record { table = table; kind = kind; option = option } }) checked text
+  pub history : TellsHistoryOf log (record { user = number; need = record { table = table; kind = kind; option = option } }) text

@@ -10,7 +10,7 @@ use Rattle.sequencer.specs.Names.{known_number}
 use Rattle.report.specs.Text.{table_name}
 use Rattle.privileges.specs.Holders.{AreHolders, is_given_to_all}
 use Rattle.privileges_text.specs.declared.ways.UserNeed.{UserNeed}
-use Rattle.privileges_text.specs.Ways.{checked_text, way_ending}
+use Rattle.privileges_text.specs.Ways.{way_ending}
 
 -- the same need with the option
 abbrev pub with_option : Need → Need
@@ -43,20 +43,16 @@ public_line log need =
     then codes "PUBLIC" ++ way_ending log (length log.statements) (record { user = length log.names.users; need = need })
     else []
 
--- a line for the owner of the table, the lines of each holder, and that of PUBLIC
-abbrev pub holders_lines : Accepted → Need → ℕ → List ℕ → List ℕ
-holders_lines log need owner users = holder_text log owner need ++ flat_map (holder_lines log need) users ++ public_line log need
-
--- the text has these lines, the holders by number, and last `checked` where a check is asked for
-pub record ListsHoldersOf (log : Accepted) (need : Need) (checked : Bool) (text : List ℕ) : Type 0 where
+-- the text has a line for the owner of the table, the lines of each holder by number, and that of PUBLIC
+pub record ListsHoldersOf (log : Accepted) (need : Need) (text : List ℕ) : Type 0 where
   pub owner : ℕ
   pub owned : slice_get (owners log.statements) need.table ≡ Some owner
   pub users : List ℕ
   pub holders : AreHolders (owners log.statements) (deeds_before log.statements (length log.statements)) need users
-  pub told : text ≡ holders_lines log need owner users ++ checked_text checked
+  pub told : text ≡ holder_text log owner need ++ flat_map (holder_lines log need) users ++ public_line log need
 
 -- so it does for the table of a name
-abbrev pub ListsHolders : Accepted → Kind → List ℕ → Bool → List ℕ → Type 0
-ListsHolders log kind name checked text =
+abbrev pub ListsHolders : Accepted → Kind → List ℕ → List ℕ → Type 0
+ListsHolders log kind name text =
     (table : ℕ) × ((known_number log.names.tables name ≡ Some table)
-    × ListsHoldersOf log (record { table = table; kind = kind; option = false }) checked text)
+    × ListsHoldersOf log (record { table = table; kind = kind; option = false }) text)

@@ -1,5 +1,5 @@
 -- How it is spelled by which grants a user holds what is needed.
-use Rattle.std.specs.Prelude.{◌++◌, [], ℕ, Bool, List, codes, if◌then◌else◌, length}
+use Rattle.std.specs.Prelude.{◌++◌, ℕ, List, codes, length}
 use Rattle.model_base.specs.Outcomes.{deeds_before, owners}
 use Rattle.sequencer.specs.Log.{Accepted}
 use Rattle.explain.specs.Lines.{shown_of}
@@ -15,7 +15,3 @@ way_text log place of =
 -- so a line ends
 abbrev pub way_ending : Accepted → ℕ → UserNeed → List ℕ
 way_ending log place of = way_text log place of ++ codes "\n"
-
--- the last line of an answer: `checked`, where a check is asked for; else there is none
-abbrev pub checked_text : Bool → List ℕ
-checked_text checked = if checked then codes "checked\n" else []

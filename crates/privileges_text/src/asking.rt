@@ -5,23 +5,21 @@ ghost use Rattle.log_text.specs.Fault.{kind_named};
 
 use model_base::{Kind, Place};
 
-/// Who holds a kind on the table of a name before a place, or at the end of the log, and whether the answer is checked.
+/// Who holds a kind on the table of a name before a place, or at the end of the log.
 #[derive(Clone, Copy)]
 pub struct HoldersAsked<'a> {
     pub kind: Kind,
     pub table: &'a str,
     pub limit: Option<Place>,
-    pub is_checked: bool,
 }
 
-/// When a user held a kind on a table, or held it with the option, both by their names, and whether the answer is checked.
+/// When a user held a kind on a table, or held it with the option, both by their names.
 #[derive(Clone, Copy)]
 pub struct HistoryAsked<'a> {
     pub user: &'a str,
     pub kind: Kind,
     pub table: &'a str,
     pub option: bool,
-    pub is_checked: bool,
 }
 
 /// The kind that a word names.

@@ -1,6 +1,6 @@
 //! When a user held a privilege, as text.
 
-ghost use Rattle.std.specs.Prelude.{◌≡◌, ◌<◌, ◌++◌, ◌⊎◌, [], All, IfErr, IfOk, List, OnOk, None, false, true, length, ℕ};
+ghost use Rattle.std.specs.Prelude.{◌≡◌, ◌<◌, ◌++◌, ◌⊎◌, [], All, IfErr, List, OnOk, None, false, true, length, ℕ};
 ghost use Rattle.std.specs.List.{flat_map};
 ghost use Rattle.line_io.specs.declared.fault.EngineFault.{EngineFault};
 ghost use Rattle.model_base.specs.Outcomes.{owners};
@@ -12,7 +12,6 @@ ghost use Rattle.privileges.specs.declared.spanning.Span.{Span};
 ghost use Rattle.privileges_text.specs.HistoryText.{TellsHistory, TellsHistoryOf, TellsOwner, TellsSpans, owner_since_text, span_range_text, span_text, spans_text, to_text};
 
 use crate::asking::HistoryAsked;
-use crate::checking::{accepts_spans, put_checked};
 use crate::running::{book_of, owner_of, table_named, user_named};
 use crate::ways::{UserNeed, put_ending};
 use audit_text::{WorkFault, put_place};
@@ -41,19 +40,18 @@ fn put_range(text: &mut Vec<u8>, span: &Span) -> Result<(), AllocError>
     put_to(text, span.to)
 }
 
-/// Appends the line of a span. Returns whether the check of chains accepts it.
+/// Appends the line of a span.
 fn put_span(
     alloc: Global,
     text: &mut Vec<u8>,
     engine: &Engine,
     of: &UserNeed,
     span: &Span,
-) -> Result<bool, AllocError>
+) -> Result<(), AllocError>
     requires all { finished engine.now ≡ length engine.now.log.statements }
     requires covered { of.now.need.table < length engine.now.log.names.tables }
     requires begun { span.now.from < length engine.now.log.statements }
-    ensures text { OnOk result (text.new.items ≡ text.old.items ++ span_text engine.now.log of.now span.now) }
-    ensures accepted { IfOk result (λ is_accepted. is_accepted ≡ true) }
+    ensures { OnOk result (text.new.items ≡ text.old.items ++ span_text engine.now.log of.now span.now) }
 {
     let _len = engine.log().len();
     let place = span.from + 1;
@@ -61,68 +59,59 @@ fn put_span(
     put_ending(alloc, text, engine, place, of)
 }
 
-/// Appends the lines of the spans. Returns whether the check of chains accepts each.
+/// Appends the lines of the spans.
 fn put_each(
     alloc: Global,
     text: &mut Vec<u8>,
     engine: &Engine,
     of: &UserNeed,
     spans: &[Span],
-) -> Result<bool, AllocError>
+) -> Result<(), AllocError>
     requires all { finished engine.now ≡ length engine.now.log.statements }
     requires covered { of.now.need.table < length engine.now.log.names.tables }
     requires begun { All (λ (span : Span). span.from < length engine.now.log.statements) spans.now }
-    ensures text { OnOk result (text.new.items ≡ text.old.items ++ flat_map (span_text engine.now.log of.now) spans.now) }
-    ensures accepted { IfOk result (λ is_accepted. is_accepted ≡ true) }
+    ensures { OnOk result (text.new.items ≡ text.old.items ++ flat_map (span_text engine.now.log of.now) spans.now) }
 {
-    let mut are_accepted = true;
     for span in spans {
-        are_accepted &= put_span(alloc, text, engine, of, span)?;
+        put_span(alloc, text, engine, of, span)?;
     }
-    Ok(are_accepted)
+    Ok(())
 }
 
-/// Appends the lines of the spans, or that there are none, and returns the same.
+/// Appends the lines of the spans, or that there are none.
 fn put_lines(
     alloc: Global,
     text: &mut Vec<u8>,
     engine: &Engine,
     of: &UserNeed,
     spans: &[Span],
-) -> Result<bool, AllocError>
+) -> Result<(), AllocError>
     requires all { finished engine.now ≡ length engine.now.log.statements }
     requires covered { of.now.need.table < length engine.now.log.names.tables }
     requires begun { All (λ (span : Span). span.from < length engine.now.log.statements) spans.now }
-    ensures text { OnOk result (text.new.items ≡ text.old.items ++ spans_text engine.now.log of.now spans.now) }
-    ensures accepted { IfOk result (λ is_accepted. is_accepted ≡ true) }
+    ensures { OnOk result (text.new.items ≡ text.old.items ++ spans_text engine.now.log of.now spans.now) }
 {
     if spans.is_empty() {
-        text.extend_from_slice(b"never\n")?;
-        return Ok(true);
+        return text.extend_from_slice(b"never\n");
     }
     put_each(alloc, text, engine, of, spans)
 }
 
-/// Writes the spans of a user who doesn't own the table into an empty text, checked where that is asked for.
+/// Writes the spans of a user who doesn't own the table into an empty text.
 fn put_spans(
     alloc: Global,
     text: &mut Vec<u8>,
     engine: &Engine,
     of: &UserNeed,
-    is_checked: bool,
 ) -> Result<(), AllocError>
     requires all { finished engine.now ≡ length engine.now.log.statements }
     requires covered { of.now.need.table < length engine.now.log.names.tables }
     requires other { owns (owners engine.now.log.statements) of.now.user of.now.need.table ≡ false }
     requires empty { text.old.items ≡ [] }
-    ensures { OnOk result (TellsSpans engine.now.log of.now is_checked text.new.items) }
+    ensures { OnOk result (TellsSpans engine.now.log of.now text.new.items) }
 {
     let found = spans(alloc, book_of(engine), of.user, &of.need)?;
-    let are_accepted = put_lines(alloc, text, engine, of, &found)?;
-    if !is_checked {
-        return Ok(());
-    }
-    put_checked(text, are_accepted && accepts_spans(engine, of, &found))
+    put_lines(alloc, text, engine, of, &found)
 }
 
 /// Writes the line of the table's owner.
@@ -134,44 +123,33 @@ fn put_owner_line(text: &mut Vec<u8>, place: Place) -> Result<(), AllocError>
     text.extend_from_slice(b"\n")
 }
 
-/// Writes the line of the user's own table into an empty text, checked where that is asked for.
-fn put_own(
-    text: &mut Vec<u8>,
-    engine: &Engine,
-    of: &UserNeed,
-    is_checked: bool,
-) -> Result<(), AllocError>
+/// Writes the line of the user's own table into an empty text.
+fn put_own(text: &mut Vec<u8>, engine: &Engine, of: &UserNeed) -> Result<(), AllocError>
     requires all { finished engine.now ≡ length engine.now.log.statements }
     requires covered { of.now.need.table < length engine.now.log.names.tables }
-    requires own { owns (owners engine.now.log.statements) of.now.user of.now.need.table ≡ true }
     requires empty { text.old.items ≡ [] }
-    ensures { OnOk result (TellsOwner engine.now.log of.now is_checked text.new.items) }
+    ensures { OnOk result (TellsOwner engine.now.log of.now text.new.items) }
 {
     let creation = book_of(engine).tables()[of.need.table.0 as usize];
-    put_owner_line(text, creation.place)?;
-    if !is_checked {
-        return Ok(());
-    }
-    put_checked(text, owns(engine, of))
+    put_owner_line(text, creation.place)
 }
 
-/// Writes when the user held what is needed, by a log that is run, into an empty text, checked where that is asked for.
+/// Writes when the user held what is needed, by a log that is run, into an empty text.
 fn put_history_of(
     alloc: Global,
     text: &mut Vec<u8>,
     engine: &Engine,
     of: &UserNeed,
-    is_checked: bool,
 ) -> Result<(), AllocError>
     requires all { finished engine.now ≡ length engine.now.log.statements }
     requires covered { of.now.need.table < length engine.now.log.names.tables }
     requires empty { text.old.items ≡ [] }
-    ensures { OnOk result (TellsHistoryOf engine.now.log of.now is_checked text.new.items) }
+    ensures { OnOk result (TellsHistoryOf engine.now.log of.now text.new.items) }
 {
     if owns(engine, of) {
-        put_own(text, engine, of, is_checked)
+        put_own(text, engine, of)
     } else {
-        put_spans(alloc, text, engine, of, is_checked)
+        put_spans(alloc, text, engine, of)
     }
 }
 
@@ -193,7 +171,7 @@ pub(crate) fn put_history(
     requires all { finished engine.now ≡ length engine.now.log.statements }
     requires empty { text.old.items ≡ [] }
     ensures history { OnOk result (TellsHistory engine.now.log asked.now.user.now asked.now.kind asked.now.table.now asked.now.option
-        asked.now.is_checked text.new.items) }
+        text.new.items) }
     ensures none { IfErr result (λ fault. (fault ≡ WorkFault.Run EngineFault.NoMemory)
         ⊎ (((fault ≡ WorkFault.NoSuchUser) × (known_number engine.now.log.names.users asked.now.user.now ≡ None))
         ⊎ ((fault ≡ WorkFault.NoSuchTable) × (known_number engine.now.log.names.tables asked.now.table.now ≡ None)))) }
@@ -205,12 +183,6 @@ pub(crate) fn put_history(
         kind: asked.kind,
         option: asked.option,
     };
-    put_history_of(
-        alloc,
-        text,
-        engine,
-        &UserNeed { user, need },
-        asked.is_checked,
-    )?;
+    put_history_of(alloc, text, engine, &UserNeed { user, need })?;
     Ok(())
 }

@@ -2,15 +2,11 @@
 //!
 //! `holders_text` writes the table's owner, whom grants give a kind by name, and PUBLIC where it is granted that;
 //! `history_text` the spans of places in which a user held it. Each line ends with the path by which the need is held, as
-//! `bohm explain` writes it. With a check, a last line says `checked`: functions that search for nothing accept each path
-//! and the lists.
-//!
-//! Each costs the run of the log, up to the place or whole, one pass over its grants, and a path for each line. Only a
-//! failing writer leaves a part.
+//! `bohm explain` writes it. Each costs the run of the log, up to the place or whole, one pass over its grants, and a path
+//! for each line. The text is made before any of it is written, so only a failing writer leaves a part.
 #![tactic(auto)]
 
 mod asking;
-mod checking;
 mod history;
 mod holding;
 mod listing;

@@ -20,25 +20,26 @@ use crate::holding::put_holders;
 use audit_text::{WorkFault, run_before, write_text};
 use engine::Engine;
 use line_io::Counted;
-use model_base::HashSeed;
+use model_base::{HashSeed, Kind};
 use std::alloc::Global;
 use std::io::{Read, Write};
 
-/// Writes the holders that are asked for, at the end of a log that is run, and flushes the writer.
+/// Writes the holders of a kind on the table of a name, at the end of a log that is run, and flushes the writer.
 fn write_holders<W: Write>(
     alloc: Global,
     writer: &mut Counted<W>,
     engine: &Engine,
-    asked: &HoldersAsked<'_>,
+    kind: Kind,
+    name: &str,
 ) -> Result<(), WorkFault>
     requires all { finished engine.now ≡ length engine.now.log.statements }
-    ensures done { OnOk result ((text : List ℕ) × (ListsHolders engine.now.log asked.now.kind asked.now.table.now asked.now.is_checked text
+    ensures done { OnOk result ((text : List ℕ) × (ListsHolders engine.now.log kind name.now text
         × Appends (W.contents writer.old.inner) (W.contents writer.new.inner) text)) }
     ensures begun { (W.contents writer.new.inner ≡ W.contents writer.old.inner) ⊎ ((text : List ℕ)
-        × (ListsHolders engine.now.log asked.now.kind asked.now.table.now asked.now.is_checked text
+        × (ListsHolders engine.now.log kind name.now text
         × AppendsFront (W.contents writer.old.inner) (W.contents writer.new.inner) text)) }
     ensures none { result ≡ Err WorkFault.NoSuchTable → (writer.new ≡ writer.old)
-        × (known_number engine.now.log.names.tables asked.now.table.now ≡ None) }
+        × (known_number engine.now.log.names.tables name.now ≡ None) }
     ensures place { (places : ℕ) → result ≡ Err (WorkFault.NoSuchPlace places) → ⊥ }
     ensures read { result ≡ Err (WorkFault.Run EngineFault.Read) → ⊥ }
     ensures write { result ≡ Err (WorkFault.Run EngineFault.Write) → writer.new.errors ≡ raised writer.old.errors }
@@ -47,7 +48,7 @@ fn write_holders<W: Write>(
     ensures alone { IfErr result IsOfAnswer }
 {
     let mut text = Vec::new(alloc);
-    put_holders(alloc, &mut text, engine, asked)?;
+    put_holders(alloc, &mut text, engine, kind, name)?;
     write_text(writer, &text)?;
     Ok(())
 }
@@ -60,9 +61,8 @@ pub fn holders_text<R: Read, W: Write>(
     asked: &HoldersAsked<'_>,
     seed: HashSeed,
 ) -> Result<(), WorkFault>
-    // What was written is who holds the kind before the place, and `checked` where that is asked for. After a fault it is a beginning of
-    // that, or nothing.
-    ensures text { SaysText (λ input text. IsHolders input asked.now.kind asked.now.table.now asked.now.limit asked.now.is_checked text)
+    // What was written is who holds the kind before the place. After a fault it is a beginning of that, or nothing.
+    ensures text { SaysText (λ input text. IsHolders input asked.now.kind asked.now.table.now asked.now.limit text)
         (R.remaining reader.old.inner) (W.contents writer.old.inner) (W.contents writer.new.inner) result }
     // NoSuchPlace comes only where the log of the text has that many places and ends before the place, and nothing is written then.
     ensures none { (places : ℕ) → result ≡ Err (WorkFault.NoSuchPlace places)
@@ -77,5 +77,5 @@ pub fn holders_text<R: Read, W: Write>(
     ensures alone { IfErr result IsOfAnswer }
 {
     let engine = run_before(alloc, reader, asked.limit, seed)?;
-    write_holders(alloc, writer, &engine, asked)
+    write_holders(alloc, writer, &engine, asked.kind, asked.table)
 }

@@ -33,10 +33,10 @@ fn write_history<W: Write>(
 ) -> Result<(), WorkFault>
     requires all { finished engine.now ≡ length engine.now.log.statements }
     ensures done { OnOk result ((text : List ℕ)
-        × (TellsHistory engine.now.log asked.now.user.now asked.now.kind asked.now.table.now asked.now.option asked.now.is_checked text
+        × (TellsHistory engine.now.log asked.now.user.now asked.now.kind asked.now.table.now asked.now.option text
         × Appends (W.contents writer.old.inner) (W.contents writer.new.inner) text)) }
     ensures begun { (W.contents writer.new.inner ≡ W.contents writer.old.inner) ⊎ ((text : List ℕ)
-        × (TellsHistory engine.now.log asked.now.user.now asked.now.kind asked.now.table.now asked.now.option asked.now.is_checked text
+        × (TellsHistory engine.now.log asked.now.user.now asked.now.kind asked.now.table.now asked.now.option text
         × AppendsFront (W.contents writer.old.inner) (W.contents writer.new.inner) text)) }
     ensures user { result ≡ Err WorkFault.NoSuchUser → (writer.new ≡ writer.old)
         × (known_number engine.now.log.names.users asked.now.user.now ≡ None) }
@@ -63,10 +63,9 @@ pub fn history_text<R: Read, W: Write>(
     asked: &HistoryAsked<'_>,
     seed: HashSeed,
 ) -> Result<(), WorkFault>
-    // What was written is when the user held the kind, and `checked` where that is asked for. After a fault it is a beginning of that, or
-    // nothing.
-    ensures text { SaysText (λ input text. IsHistory input asked.now.user.now asked.now.kind asked.now.table.now asked.now.option
-        asked.now.is_checked text) (R.remaining reader.old.inner) (W.contents writer.old.inner) (W.contents writer.new.inner) result }
+    // What was written is when the user held the kind. After a fault it is a beginning of that, or nothing.
+    ensures text { SaysText (λ input text. IsHistory input asked.now.user.now asked.now.kind asked.now.table.now asked.now.option text)
+        (R.remaining reader.old.inner) (W.contents writer.old.inner) (W.contents writer.new.inner) result }
     // NoSuchUser comes only where no statement names the user, and nothing is written then.
     ensures user { result ≡ Err WorkFault.NoSuchUser → (writer.new ≡ writer.old)
         × IfSome (R.remaining reader.old.inner) (λ input. LacksUser input asked.now.user.now) }

@@ -35,8 +35,8 @@ told_at log need book own place result here same shows told =
     sym (told (owners log.statements) deeds (subst (λ (b : Entries). ShowsBook b (owners log.statements) deeds) (sym same) shows)
     ∙ ap (λ (ds : List Deed). is_given_to_all (owners log.statements) ds need) (ap (λ (n : ℕ). deeds_below n deeds) here ∙ all_below log.statements))
 
-pub returns-then-not-is_given_to_all-clause-text : goal.returns-then-not-is_given_to_all-clause-text
-returns-then-not-is_given_to_all-clause-text c =
+pub returns-then-not-is_given_to_all : goal.returns-then-not-is_given_to_all
+returns-then-not-is_given_to_all c =
     let run = c.args.engine.now in
     let need = c.args.need.now in
     let place : c.len-place.result ≡ length run.log.statements = c.len-place.ensures.count ∙ ap (λ (l : Accepted). length l.statements) c.log.ensures.value in
@@ -45,8 +45,8 @@ returns-then-not-is_given_to_all-clause-text c =
     told_at run.log need c.book_of.result.now run.book c.len-place.result c.is_given_to_all.result place c.book_of.ensures.value c.book_of.ensures.shows c.is_given_to_all.ensures in
     sym (ap (λ (text : List ℕ). c.args.text.now.items ++ text) (public-none run.log need (told ∙ no)) ∙ append-nil c.args.text.now.items)
 
-pub returns-clause-text : goal.returns-clause-text
-returns-clause-text c =
+pub returns : goal.returns
+returns c =
     let run = c.args.engine.now in
     let need = c.args.need.now in
     let text : List ℕ = c.args.text.now.items in
@@ -62,4 +62,4 @@ returns-clause-text c =
     ∙ ap (λ (n : ℕ). (text ++ codes "PUBLIC") ++ way_ending run.log (length run.log.statements) (record { user = n; need = need })) c.nobody.ensures
     ∙ append_assoc text (codes "PUBLIC") (way_ending run.log (length run.log.statements) (record { user = length run.log.names.users; need = need }))
     ∙ ap (λ (line : List ℕ). text ++ line) (sym (public-some run.log need (told ∙ yes))))
-    c.put_ending.ensures.text
+    c.put_ending.ensures

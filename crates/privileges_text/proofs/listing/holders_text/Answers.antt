@@ -10,7 +10,7 @@ use Rattle.privileges_text.proofs.listing.holders_text.Goals as goal
 pub returns-clause-text : goal.returns-clause-text
 returns-clause-text g c =
     let log = c.in_ok-engine.ensures.log in
-    let says = λ (l : Accepted). ListsHolders l c.args.asked.now.kind c.args.asked.now.table.now c.args.asked.now.is_checked in (
+    let says = λ (l : Accepted). ListsHolders l c.args.asked.now.kind c.args.asked.now.table.now in (
       told says _ _ _ _ _ c.args.asked.now.limit log c.write_holders.ensures.done,
       begun says _ _ _ _ c.args.asked.now.limit log c.write_holders.ensures.begun,
     )

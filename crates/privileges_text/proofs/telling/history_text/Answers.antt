@@ -14,7 +14,7 @@ pub returns-clause-text : goal.returns-clause-text
 returns-clause-text g c =
     let asked = c.args.asked.now in
     let log = known-before (g.R.Read.remaining c.args.reader.now.inner) c.in_ok-engine.engine.log None c.in_ok-engine.ensures.log (omega arith) in
-    let says = λ (l : Accepted). TellsHistory l asked.user.now asked.kind asked.table.now asked.option asked.is_checked in (
+    let says = λ (l : Accepted). TellsHistory l asked.user.now asked.kind asked.table.now asked.option in (
       told says _ _ _ _ _ None log c.write_history.ensures.done,
       begun says _ _ _ _ None log c.write_history.ensures.begun,
     )

@@ -1,4 +1,5 @@
 use Rattle.std.proofs.Common.{◌≡◌, ◌++◌, ◌∙◌, ℕ, List, ap, length, subst, sym}
+use Rattle.std.proofs.lemmas.Result.{on_ok_weaker}
 use Rattle.model_base.specs.Outcomes.{deeds_before, owners}
 use Rattle.model_base.specs.RecordGrantees.{WereGranted}
 use Rattle.grants_base.specs.Book.{Entries, ShowsBook}
@@ -9,15 +10,8 @@ use Rattle.audit_text.specs.Explanation.{shown_text}
 use Rattle.privileges_text.proofs.Ended.{shown-granted}
 use Rattle.privileges_text.proofs.ways.put_way.Goals as goal
 
-pub accepts_way-requires-clause-shown : goal.accepts_way-requires-clause-shown
-accepts_way-requires-clause-shown c =
-    let log = c.args.engine.now.log.statements in
-    let shows : ShowsBook c.book_of.result.now (owners log) (deeds_before log (length log)) =
-    subst (λ (book : Entries). ShowsBook book (owners log) (deeds_before log (length log))) (sym c.book_of.ensures.value) c.book_of.ensures.shows in
-    c.in_ok-shown.ensures (owners log) (deeds_before log (length log)) shows
-
-pub returns-clause-text : goal.returns-clause-text
-returns-clause-text c =
+pub returns : goal.returns
+returns c =
     let run = c.args.engine.now in
     let log = run.log.statements in
     let user = c.args.of.now.user in
@@ -31,4 +25,6 @@ returns-clause-text c =
     subst (λ (shown : Shown). WereGranted log (finished run) (ranks_shown shown)) (sym is)
     (subst (λ (places : ℕ). WereGranted log places (ranks_shown (shown_of (owners log) (deeds_before log (length log)) c.args.place user need))) (sym all)
     (shown-granted log (length log) user need c.args.place c.requires.within)) in
-    c.in_ok-put_shown.ensures (λ _. granted) ∙ ap (λ (shown : Shown). c.args.text.now.items ++ shown_text log run.log.names shown) is
+    on_ok_weaker c.put_shown.result
+    (λ told. told (λ _. granted) ∙ ap (λ (shown : Shown). c.args.text.now.items ++ shown_text log run.log.names shown) is)
+    c.put_shown.ensures

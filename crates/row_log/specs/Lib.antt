@@ -1,4 +1,0 @@
-pub mod MakingLog
-pub mod RowLines
-pub mod RowLog
-pub mod Replaying
